@@ -5,3 +5,4 @@ pub mod Merging
 mod TraceAdding
 pub mod FindingTexts
 mod Named
+mod FoundGrouping

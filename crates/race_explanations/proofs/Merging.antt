@@ -56,36 +56,36 @@ with_more findings [] one = refl
 with_more findings (x ∷ some) one = with_more (with_finding findings x) some one
 
 -- no pair
-pub none_added : (setting : Setting) (entries : List Entry) (findings : List Finding) → AddsAll setting entries [] findings findings
-none_added setting entries findings = record { findings = []; all_found = none; new_is = refl }
+pub none_added : (setting : Setting) (trace : ℕ) (entries : List Entry) (findings : List Finding) → AddsAll setting trace entries [] findings findings
+none_added setting trace entries findings = record { findings = []; all_found = none; new_is = refl }
 
 -- one pair more
-pub one_added : (setting : Setting) (entries : List Entry) (pairs : List Pair) (index : ℕ) (d : Pair) (finding : Finding) (old one two : List Finding) → index < length pairs →
-    AddsAll setting entries (take index pairs) old one → IsFinding setting entries (get_or pairs index d) finding → two ≡ with_finding one finding →
-    AddsAll setting entries (take (index + 1) pairs) old two
-one_added setting entries pairs index d finding old one two below before is new = record {
+pub one_added : (setting : Setting) (trace : ℕ) (entries : List Entry) (pairs : List Pair) (index : ℕ) (d : Pair) (finding : Finding) (old one two : List Finding) → index < length pairs →
+    AddsAll setting trace entries (take index pairs) old one → IsFinding setting trace entries (get_or pairs index d) finding → two ≡ with_finding one finding →
+    AddsAll setting trace entries (take (index + 1) pairs) old two
+one_added setting trace entries pairs index d finding old one two below before is new = record {
   findings = before.findings ++ finding ∷ [];
-  all_found = subst (λ (first : List Pair). AllFound setting entries first (before.findings ++ finding ∷ [])) (sym (take_more pairs index d below))
+  all_found = subst (λ (first : List Pair). AllFound setting trace entries first (before.findings ++ finding ∷ [])) (sym (take_more pairs index d below))
       (more (get_or pairs index d) finding before.all_found is);
   new_is = new ∙ ap (λ l. with_finding l finding) before.new_is ∙ sym (with_more old before.findings finding);
 }
 
 -- one pair more of those of races
-pub race_added : (setting : Setting) (entries : List Entry) (races : List Race) (index : ℕ) (d : Race) (finding : Finding) (old one two : List Finding) → index < length races →
-    AddsAll setting entries (take index (map (λ (race : Race). race.pair) races)) old one → IsFinding setting entries (get_or races index d).pair finding →
-    two ≡ with_finding one finding → AddsAll setting entries (take (index + 1) (map (λ (race : Race). race.pair) races)) old two
-race_added setting entries races index d finding old one two below before is new =
-    one_added setting entries (map (λ (race : Race). race.pair) races) index d.pair finding old one two (omega (arith, below, length-map races (λ (race : Race). race.pair))) before
-    (subst (λ (pair : Pair). IsFinding setting entries pair finding) (sym (get_or-map (λ (race : Race). race.pair) races index d d.pair below)) is) new
+pub race_added : (setting : Setting) (trace : ℕ) (entries : List Entry) (races : List Race) (index : ℕ) (d : Race) (finding : Finding) (old one two : List Finding) → index < length races →
+    AddsAll setting trace entries (take index (map (λ (race : Race). race.pair) races)) old one → IsFinding setting trace entries (get_or races index d).pair finding →
+    two ≡ with_finding one finding → AddsAll setting trace entries (take (index + 1) (map (λ (race : Race). race.pair) races)) old two
+race_added setting trace entries races index d finding old one two below before is new =
+    one_added setting trace entries (map (λ (race : Race). race.pair) races) index d.pair finding old one two (omega (arith, below, length-map races (λ (race : Race). race.pair))) before
+    (subst (λ (pair : Pair). IsFinding setting trace entries pair finding) (sym (get_or-map (λ (race : Race). race.pair) races index d d.pair below)) is) new
 
 -- the first so many pairs
-pub pairs_added : (setting : Setting) (entries : List Entry) (most : ℕ) (pairs front : List Pair) (old new : List Finding) (count : ℕ) → ArePairs entries pairs →
-    front ≡ take most pairs → count ≡ length pairs → AddsAll setting entries front old new → AddsPairs setting entries most old new count
-pairs_added setting entries most pairs front old new count are is count_is adds = record {
+pub pairs_added : (setting : Setting) (trace : ℕ) (entries : List Entry) (most : ℕ) (pairs front : List Pair) (old new : List Finding) (count : ℕ) → ArePairs entries pairs →
+    front ≡ take most pairs → count ≡ length pairs → AddsAll setting trace entries front old new → AddsPairs setting trace entries most old new count
+pairs_added setting trace entries most pairs front old new count are is count_is adds = record {
   pairs = pairs;
   are_pairs = are;
   count_is = count_is;
   findings = adds.findings;
-  all_found = subst (λ (some : List Pair). AllFound setting entries some adds.findings) is adds.all_found;
+  all_found = subst (λ (some : List Pair). AllFound setting trace entries some adds.findings) is adds.all_found;
   new_is = adds.new_is;
 }

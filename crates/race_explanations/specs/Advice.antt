@@ -1,5 +1,5 @@
 -- Where two strands part, and what would order them.
-use Rattle.std.specs.Prelude.{ℕ, ◌==◌, List, [], ◌++◌, codes, Option, Some, None, if◌then◌else◌}
+use Rattle.std.specs.Prelude.{ℕ, ◌==◌, ◌&&◌, Bool, List, [], ◌++◌, codes, Option, Some, None, if◌then◌else◌}
 use Rattle.source_quotes.specs.declared.look.Look.{Look}
 use Rattle.source_quotes.specs.Quotes.{noted, gutter}
 use Rattle.trace_notes.specs.Places.{PlaceParts}
@@ -9,7 +9,7 @@ use Rattle.race_pairs.specs.declared.lineage.OpenSpawn.{OpenSpawn}
 use Rattle.race_pairs.specs.Refusals.{line_in}
 use Rattle.race_pairs.specs.declared.race.Pair.{Pair}
 use Rattle.race_explanations.specs.Settings.{Origin, in_program, in_trace, Setting}
-use Rattle.race_explanations.specs.Names.{function_at}
+use Rattle.race_explanations.specs.Names.{function_at, noted_function, are_in_one_function}
 use Rattle.race_explanations.specs.Paths.{line_words, shown_line}
 
 -- ---- words
@@ -97,18 +97,46 @@ rounds_words (in_program file source functions) =
 rounds_words (in_trace notes) =
     codes "what is spawned here again and again is never ordered: give each a place of its own, or use a reducer"
 
--- a sync in the function in which a line stands, before another line
-abbrev pub sync_before : Setting → (line onward : ℕ) → List ℕ
-sync_before setting line onward =
-    codes "a `sync` in " ++ function_word setting line ++ codes " before " ++ line_words setting.origin onward
+-- what a function does, where it is known
+abbrev pub doing_word : Option (List ℕ) → List ℕ
+doing_word (Some name) = spawner_word (Some name) ++ codes " does"
+doing_word None = codes "is done"
 
--- that it would order two strands
-abbrev pub missing_help : Setting → (line onward : ℕ) → List ℕ
-missing_help setting line onward = sync_before setting line onward ++ codes " would order them"
+abbrev pub doing_in : Origin → ℕ → List ℕ
+doing_in (in_program file source functions) line = doing_word (Some (function_at functions line))
+doing_in (in_trace notes) line = doing_word (noted_function (noted_place notes line))
 
--- what would order two strands that part at a spawn on one line, behind which the spawner goes on to another
-abbrev pub sync_help : Setting → (line onward : ℕ) → List ℕ
-sync_help setting line onward = if line == onward then rounds_words setting.origin else missing_help setting line onward
+-- before another line of the function that spawns
+abbrev pub before_words : Origin → (onward : ℕ) → List ℕ
+before_words origin onward = codes " before " ++ line_words origin onward
+
+-- between the spawn on a line and what another function does on another line
+abbrev pub between_words : Origin → (line onward : ℕ) → List ℕ
+between_words origin line onward =
+    (codes " between the spawn at " ++ line_words origin line) ++ (codes " and what " ++ doing_in origin onward) ++
+    (codes " at " ++ line_words origin onward)
+
+-- A line of another function does not say where in the function that spawns.
+abbrev pub where_words : Origin → (line onward : ℕ) → List ℕ
+where_words origin line onward =
+    if are_in_one_function origin line onward then before_words origin onward else between_words origin line onward
+
+-- a sync in the function that spawns on a line, before it goes on to another line
+abbrev pub sync_place : Setting → (line onward : ℕ) → List ℕ
+sync_place setting line onward = (codes "a `sync` in " ++ function_word setting line) ++ where_words setting.origin line onward
+
+abbrev pub order_words : (is_sure : Bool) → List ℕ
+order_words is_sure = if is_sure then codes " would order them" else codes " may order them"
+
+-- The sync orders them for sure only on a line of the function that spawns.
+abbrev pub missing_help : Setting → (line onward : ℕ) → (is_sure : Bool) → List ℕ
+missing_help setting line onward is_sure =
+    sync_place setting line onward ++ order_words (is_sure && are_in_one_function setting.origin line onward)
+
+-- what orders two strands that part at a spawn on one line, behind which the spawner goes on to another
+abbrev pub sync_help : Setting → (line onward : ℕ) → (is_sure : Bool) → List ℕ
+sync_help setting line onward is_sure =
+    if line == onward then rounds_words setting.origin else missing_help setting line onward is_sure
 
 -- what makes a read on one line the same in every run, where a spawn on another is outstanding
 abbrev pub move_help : Setting → (at line : ℕ) → List ℕ
@@ -120,10 +148,10 @@ move_help setting at line =
 abbrev pub put_help : List ℕ
 put_help = codes "a `put` into it has to come first in the serial order"
 
--- what would order two strands that part there
-abbrev pub sync_help_of : Setting → (onward : ℕ) → Option Parting → Option (List ℕ)
-sync_help_of setting onward (Some parting) = Some (sync_help setting (line_in setting.lines parting.entry) onward)
-sync_help_of setting onward None = None
+-- what orders two strands that part there
+abbrev pub sync_help_of : Setting → (onward : ℕ) → (is_sure : Bool) → Option Parting → Option (List ℕ)
+sync_help_of setting onward is_sure (Some parting) = Some (sync_help setting (line_in setting.lines parting.entry) onward is_sure)
+sync_help_of setting onward is_sure None = None
 
 -- what makes a read the same in every run, where that spawn is outstanding
 abbrev pub move_help_of : Setting → Pair → (refused : ℕ) → Option OpenSpawn → Option (List ℕ)
@@ -143,6 +171,6 @@ help_note setting None = []
 abbrev pub rounds_note : Setting → List ℕ
 rounds_note setting = help_begun setting ++ rounds_words setting.origin ++ codes "\n"
 
--- a sync in the function in which a line stands, before another line, and what it does
-abbrev pub sync_note : Setting → (line onward : ℕ) → (does : List ℕ) → List ℕ
-sync_note setting line onward does = help_begun setting ++ sync_before setting line onward ++ does
+-- a sync in the function that spawns on a line, before it goes on to another line, and what it does
+abbrev pub sync_note : Setting → (line onward : ℕ) → (is_sure : Bool) → List ℕ
+sync_note setting line onward is_sure = help_begun setting ++ missing_help setting line onward is_sure ++ codes "\n"

@@ -7,6 +7,7 @@ use Rattle.race_pairs.specs.PairKeys.{key_of}
 use Rattle.race_pairs.specs.Refusals.{line_in}
 use Rattle.race_pairs.specs.Encounters.{IsEncounter}
 use Rattle.race_pairs.specs.declared.race.Pair.{Pair}
+use Rattle.race_pairs.specs.declared.encounter.Encounter.{Encounter}
 use Rattle.race_explanations.specs.declared.case.Case.{Case}
 use Rattle.race_explanations.specs.declared.case.Course.{Course}
 use Rattle.race_explanations.specs.Settings.{Setting}
@@ -24,18 +25,18 @@ pub data AreCases (entries : List Entry) : List Pair → List Case → Type 0 wh
       AreCases entries (pairs ++ pair ∷ []) (cases ++ case ∷ [])
 
 -- the entry of the spawn at which the two strands part, and 0 where they part at none
-abbrev pub spawn_of : Case → ℕ
-spawn_of case = unwrap_or (option_map (λ parting. parting.entry) case.encounter.parting) 0
+abbrev pub spawn_of : Encounter → ℕ
+spawn_of encounter = unwrap_or (option_map (λ parting. parting.entry) encounter.parting) 0
 
 -- the entry to which the spawner goes on
-abbrev pub onward_of : Case → ℕ
-onward_of case = unwrap_or case.encounter.onward 0
+abbrev pub onward_of : Encounter → ℕ
+onward_of encounter = unwrap_or encounter.onward 0
 
 -- where the two strands part, and where the spawner goes on
-abbrev pub course_of : Setting → Case → Course
-course_of setting case = record {
-  spawn = spawn_of case;
-  onward = onward_of case;
-  line = line_in setting.lines (onward_of case);
-  is_round = line_in setting.lines (onward_of case) == line_in setting.lines (spawn_of case);
+abbrev pub course_of : Setting → Encounter → Course
+course_of setting encounter = record {
+  spawn = spawn_of encounter;
+  onward = onward_of encounter;
+  line = line_in setting.lines (onward_of encounter);
+  is_round = line_in setting.lines (onward_of encounter) == line_in setting.lines (spawn_of encounter);
 }

@@ -1,5 +1,5 @@
 -- What is told of the entries of a run.
-use Rattle.std.specs.Prelude.{ℕ, ◌≡◌, ◌-◌, nat_lt, Bool, List, [], ◌∷◌, ◌++◌, codes, map}
+use Rattle.std.specs.Prelude.{ℕ, ◌≡◌, ◌-◌, nat_lt, Bool, List, [], ◌++◌, codes, map}
 use Rattle.std.specs.Prelude.{length, take, if◌then◌else◌}
 use Rattle.std.specs.Global.{Global}
 use Rattle.text_words.specs.Values.{Known}

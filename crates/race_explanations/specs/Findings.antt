@@ -1,5 +1,5 @@
 -- What is told of a pair of places that raced in a trace, in pieces, so that pairs of several traces that are told alike are told once.
-use Rattle.std.specs.Prelude.{ℕ, ◌≡◌, ◌<◌, Option, Some, None, slice_set, slice_index_or, ◌+◌, ◌-◌, ◌^◌, ◌==◌, ◌&&◌, min, nat_lt, Bool, List, [], ◌∷◌, ◌++◌, codes, flat_map, map, length, take, cond, if◌then◌else◌}
+use Rattle.std.specs.Prelude.{ℕ, ◌≡◌, ◌<◌, true, false, Option, Some, None, slice_set, slice_index_or, ◌+◌, ◌-◌, ◌^◌, ◌==◌, ◌&&◌, min, nat_lt, Bool, List, [], ◌∷◌, ◌++◌, codes, map, length, take, cond, if◌then◌else◌}
 use Rattle.std.specs.Str.{bytes_eq}
 use Rattle.std.specs.Global.{Vec}
 use Rattle.std.specs.BTreeSet.{insert_key}
@@ -16,10 +16,15 @@ use Rattle.race_pairs.specs.PairKeys.{key_of}
 use Rattle.race_explanations.specs.declared.finding.Finding.{Finding}
 use Rattle.race_explanations.specs.declared.findings.Findings.{Findings}
 use Rattle.race_explanations.specs.declared.extent.Extent.{Extent}
-use Rattle.race_explanations.specs.Extents.{most_pairs}
+use Rattle.race_explanations.specs.Extents.{most_pairs, most_shown}
 use Rattle.race_explanations.specs.Settings.{Origin, in_program, in_trace, Setting}
-use Rattle.race_explanations.specs.Titles.{sort_word, reason_words, listed_names, told_names, left_out}
-use Rattle.race_explanations.specs.Messages.{earlier_text, refused_text, advice_text, message}
+use Rattle.race_explanations.specs.Titles.{sort_word, reason_words, listed_names, told_names}
+use Rattle.race_explanations.specs.Messages.{earlier_text, refused_text, where_text, help_of, own_help_of, message, member_message}
+use Rattle.race_explanations.specs.Advice.{help_note}
+use Rattle.race_explanations.specs.Cases.{course_of}
+use Rattle.race_explanations.specs.Leads.{IsLeadOf}
+use Rattle.race_explanations.specs.FindingTexts.{finding_text, member_finding}
+use Rattle.race_explanations.specs.FoundGroups.{found_groups_text}
 use Rattle.model_histories.specs.declared.answer.Entry.{Entry}
 use Rattle.race_pairs.specs.Refusals.{refusals_among}
 use Rattle.race_pairs.specs.Encounters.{IsEncounter}
@@ -34,23 +39,26 @@ kind_text setting reason = painted setting.look Red (sort_word reason) ++ codes 
 abbrev pub name_text : Setting → Reason → List ℕ → List ℕ
 name_text setting reason places = listed_names setting reason (take 1 places)
 
--- the two accesses with what led there, and what would order them
+-- the two accesses with what led there, and where they part
 abbrev pub body_text : Setting → Pair → Encounter → List ℕ
 body_text setting pair encounter =
     earlier_text pair.lines.reason setting pair encounter ++ refused_text setting pair encounter ++
-    advice_text pair.lines.reason setting pair encounter ++ codes "\n"
+    where_text pair.lines.reason setting pair encounter
 
-abbrev pub finding_text : Finding → List ℕ
-finding_text finding =
-    finding.kind.items ++ finding.name.items ++ left_out 1 (length finding.names.keys) ++ codes ", " ++ counted finding.times (codes "time") ++ codes "\n" ++
-    finding.body.items
+-- what orders the two, by whether a sync is sure to
+abbrev pub help_text : Setting → Pair → Encounter → (is_sure : Bool) → List ℕ
+help_text setting pair encounter is_sure = help_note setting (help_of pair.lines.reason setting pair encounter is_sure)
+
+-- the same where what orders all of a group is told once
+abbrev pub own_text : Setting → Pair → Encounter → List ℕ
+own_text setting pair encounter = help_note setting (own_help_of pair.lines.reason setting pair encounter)
 
 abbrev pub IsOfTrace : Origin → Type 0
 IsOfTrace (in_program file source functions) = ⊥
 IsOfTrace (in_trace notes) = Unit {0}
 
--- The finding is that of the pair, and its text is what is told of the pair where its trace is told alone.
-pub record IsFinding (setting : Setting) (entries : List Entry) (pair : Pair) (finding : Finding) : Type 0 where
+-- The finding is that of a pair of the trace with this number, and its text is what is told of the pair where its trace is told alone.
+pub record IsFinding (setting : Setting) (trace : ℕ) (entries : List Entry) (pair : Pair) (finding : Finding) : Type 0 where
   pub places : List ℕ
   pub encounter : Encounter
   pub are_places : ArePlaces entries (key_of pair) places
@@ -58,21 +66,27 @@ pub record IsFinding (setting : Setting) (entries : List Entry) (pair : Pair) (f
   pub kind_is : finding.kind.items ≡ kind_text setting pair.lines.reason
   pub name_is : finding.name.items ≡ name_text setting pair.lines.reason places
   pub body_is : finding.body.items ≡ body_text setting pair encounter
+  pub sure_is : finding.sure_help.items ≡ help_text setting pair encounter true
+  pub open_is : finding.open_help.items ≡ help_text setting pair encounter false
+  pub own_is : finding.own_help.items ≡ own_text setting pair encounter
+  pub lead_is : IsLeadOf setting trace pair.spawn (course_of setting encounter) finding.lead
   pub names_are : map (λ (name : Vec ℕ). name.items) finding.names.keys ≡ told_names setting pair.lines.reason places
   pub times_is : finding.times ≡ pair.times
-  pub text_is : finding_text finding ≡ message setting pair places encounter
+  pub text_is : (is_sure : Bool) → finding_text finding is_sure ≡ message setting pair places encounter is_sure
+  pub member_is : member_finding finding ≡ member_message setting pair places encounter
 
 -- The findings are those of the pairs, in their order.
-pub data AllFound (setting : Setting) (entries : List Entry) : List Pair → List Finding → Type 0 where
-  none : AllFound setting entries [] []
-  more : {pairs : List Pair} {findings : List Finding} (pair : Pair) (finding : Finding) → AllFound setting entries pairs findings →
-      IsFinding setting entries pair finding → AllFound setting entries (pairs ++ pair ∷ []) (findings ++ finding ∷ [])
+pub data AllFound (setting : Setting) (trace : ℕ) (entries : List Entry) : List Pair → List Finding → Type 0 where
+  none : AllFound setting trace entries [] []
+  more : {pairs : List Pair} {findings : List Finding} (pair : Pair) (finding : Finding) → AllFound setting trace entries pairs findings →
+      IsFinding setting trace entries pair finding → AllFound setting trace entries (pairs ++ pair ∷ []) (findings ++ finding ∷ [])
 
 -- ---- findings that are told alike
 
 -- both are told alike but for the names of what they were on and the counts
 abbrev pub is_alike : Finding → Finding → Bool
-is_alike one other = bytes_eq one.kind.items other.kind.items && bytes_eq one.body.items other.body.items
+is_alike one other =
+    (bytes_eq one.kind.items other.kind.items && bytes_eq one.body.items other.body.items) && bytes_eq one.sure_help.items other.sure_help.items
 
 -- the sum, or the largest number that is kept
 abbrev pub added_up : ℕ → ℕ → ℕ
@@ -145,18 +159,18 @@ with_trace extent file entries findings count found = record {
 }
 
 -- Findings of the first of so many pairs were added.
-pub record AddsPairs (setting : Setting) (entries : List Entry) (most : ℕ) (old new : List Finding) (count : ℕ) : Type 0 where
+pub record AddsPairs (setting : Setting) (trace : ℕ) (entries : List Entry) (most : ℕ) (old new : List Finding) (count : ℕ) : Type 0 where
   pub pairs : List Pair
   pub are_pairs : ArePairs entries pairs
   pub count_is : count ≡ length pairs
   pub findings : List Finding
-  pub all_found : AllFound setting entries (take most pairs) findings
+  pub all_found : AllFound setting trace entries (take most pairs) findings
   pub new_is : new ≡ with_findings old findings
 
 -- Findings of all these pairs were added.
-pub record AddsAll (setting : Setting) (entries : List Entry) (pairs : List Pair) (old new : List Finding) : Type 0 where
+pub record AddsAll (setting : Setting) (trace : ℕ) (entries : List Entry) (pairs : List Pair) (old new : List Finding) : Type 0 where
   pub findings : List Finding
-  pub all_found : AllFound setting entries pairs findings
+  pub all_found : AllFound setting trace entries pairs findings
   pub new_is : new ≡ with_findings old findings
 
 -- A trace was added.
@@ -166,7 +180,7 @@ pub record AddsTrace (extent : Extent) (file : List ℕ) (setting : Setting) (en
   pub are_pairs : ArePairs entries pairs
   pub count_is : count ≡ length pairs
   pub findings : List Finding
-  pub all_found : AllFound setting entries (take (most_pairs extent) pairs) findings
+  pub all_found : AllFound setting old.traces entries (take (most_pairs extent) pairs) findings
   pub new_is : new ≡ with_trace extent file entries findings count old
 
 -- ---- what is told of them
@@ -199,13 +213,11 @@ abbrev pub found_summary : Found → List ℕ
 found_summary found =
     counted found.refusals (codes "refusal") ++ at_pairs found.untold (length found.findings) ++ codes ", among " ++ requests_text found
 
-abbrev pub findings_text : List Finding → List ℕ
-findings_text findings = flat_map finding_text findings
-
--- the first findings, how many there are more, and how many refusals there were
+-- the first findings in groups, how many there are more, and how many refusals there were
 abbrev pub races_found_text : Extent → Found → List ℕ
 races_found_text extent found =
-    findings_text (take (most_pairs extent) found.findings) ++ findings_left_out (most_pairs extent) (length found.findings) ++ found.untold ++ found_summary found
+    found_groups_text (most_shown extent) (take (most_pairs extent) found.findings) ++ findings_left_out (most_pairs extent) (length found.findings) ++
+    found.untold ++ found_summary found
 
 -- what is told of what is found in several traces
 abbrev pub found_text : Extent → Found → List ℕ

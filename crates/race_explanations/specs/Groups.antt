@@ -1,6 +1,6 @@
 -- What is told of races whose strands part at spawns on one line.
 use Rattle.std.specs.Prelude.{ℕ, ◌-◌, ◌==◌, ◌&&◌, ◌||◌, nat_lt, not, Bool, true, false, List, [], ◌∷◌, ◌++◌, codes, flat_map, length, take, Option, Some, None, slice_get, if◌then◌else◌}
-use Rattle.source_quotes.specs.Quotes.{noted, counted}
+use Rattle.source_quotes.specs.Quotes.{counted}
 use Rattle.race_pairs.specs.declared.groups.Group.{Group}
 use Rattle.race_explanations.specs.declared.case.Case.{Case}
 use Rattle.race_explanations.specs.declared.case.Course.{Course}
@@ -19,15 +19,15 @@ pairs_words (in_trace notes) = codes " of places"
 -- ---- the races of a group
 
 -- what is told of the case at a place, as of one that is alone
-abbrev pub alone_of : Setting → Option Case → List ℕ
-alone_of setting (Some case) = case_text setting case
-alone_of setting None = []
+abbrev pub alone_of : Setting → (is_sure : Bool) → Option Case → List ℕ
+alone_of setting is_sure (Some case) = case_text setting case is_sure
+alone_of setting is_sure None = []
 
-abbrev pub alone_at : Setting → List Case → ℕ → List ℕ
-alone_at setting cases place = alone_of setting (slice_get cases place)
+abbrev pub alone_at : Setting → List Case → (is_sure : Bool) → ℕ → List ℕ
+alone_at setting cases is_sure place = alone_of setting is_sure (slice_get cases place)
 
-abbrev pub alone_text : Setting → List Case → (places : List ℕ) → List ℕ
-alone_text setting cases places = flat_map (alone_at setting cases) places
+abbrev pub alone_text : Setting → List Case → (is_sure : Bool) → (places : List ℕ) → List ℕ
+alone_text setting cases is_sure places = flat_map (alone_at setting cases is_sure) places
 
 -- as of one of several, of which is told once what would order them
 abbrev pub member_of : Setting → Option Case → List ℕ
@@ -43,7 +43,7 @@ members_text setting cases places = flat_map (member_at setting cases) places
 -- ---- where the spawner goes on
 
 abbrev pub course_if : Setting → Option Case → List Course
-course_if setting (Some case) = course_of setting case ∷ []
+course_if setting (Some case) = course_of setting case.encounter ∷ []
 course_if setting None = []
 
 abbrev pub course_at : Setting → List Case → ℕ → List Course
@@ -86,6 +86,23 @@ has_round found (course ∷ courses) = has_round (found || course.is_round) cour
 abbrev pub is_sure : Setting → (line : ℕ) → Course → List Course → Bool
 is_sure setting line first courses = are_in_one_function setting.origin line first.line && not (leaves_open first false courses)
 
+abbrev pub is_sure_of : Setting → (line : ℕ) → Option Course → List Course → Bool
+is_sure_of setting line (Some first) courses = is_sure setting line first courses
+is_sure_of setting line None courses = false
+
+-- The sync that is told of the races at these places, which part at spawns on a line, orders them all.
+abbrev pub is_sure_at : Setting → List Case → (line : ℕ) → (places : List ℕ) → Bool
+is_sure_at setting cases line places =
+    is_sure_of setting line (first_among None (courses_of setting cases places)) (courses_of setting cases places)
+
+abbrev pub is_sure_by : Setting → List Case → Option ℕ → (places : List ℕ) → Bool
+is_sure_by setting cases (Some line) places = is_sure_at setting cases line places
+is_sure_by setting cases None places = false
+
+-- the same of a group
+abbrev pub is_group_sure : Setting → List Case → Group → Bool
+is_group_sure setting cases group = is_sure_by setting cases group.spawn group.places.items
+
 -- ---- what is told before them and behind them
 
 -- beside what runs what is spawned on a line
@@ -104,12 +121,9 @@ first_text setting line count first =
 abbrev pub rounds_text : Setting → List Course → List ℕ
 rounds_text setting courses = if has_round false courses then rounds_note setting else []
 
-abbrev pub order_words : (is_sure : Bool) → List ℕ
-order_words is_sure = if is_sure then codes " would order them\n" else codes " may order them\n"
-
 -- the sync that orders the others
 abbrev pub sync_text : Setting → (line : ℕ) → Option Course → List Course → List ℕ
-sync_text setting line (Some first) courses = sync_note setting line first.line (order_words (is_sure setting line first courses))
+sync_text setting line (Some first) courses = sync_note setting line first.line (is_sure setting line first courses)
 sync_text setting line None courses = []
 
 -- how many they are, and what orders them
@@ -134,11 +148,13 @@ many_text setting most cases line places =
 -- one that is alone is told as if there were no groups
 abbrev pub text_at_line : Setting → (most : ℕ) → List Case → (line : ℕ) → (places : List ℕ) → List ℕ
 text_at_line setting most cases line places =
-    if nat_lt 1 (length places) then many_text setting most cases line places else alone_text setting cases places
+    if nat_lt 1 (length places)
+    then many_text setting most cases line places
+    else alone_text setting cases (is_sure_at setting cases line places) places
 
 abbrev pub text_by : Setting → (most : ℕ) → List Case → Option ℕ → (places : List ℕ) → List ℕ
 text_by setting most cases (Some line) places = text_at_line setting most cases line places
-text_by setting most cases None places = alone_text setting cases places
+text_by setting most cases None places = alone_text setting cases false places
 
 -- the races of a group
 abbrev pub group_text : Setting → (most : ℕ) → List Case → Group → List ℕ

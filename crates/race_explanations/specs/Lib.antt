@@ -9,6 +9,9 @@ pub mod Paths
 pub mod Advice
 pub mod Messages
 pub mod Groups
+pub mod Leads
+pub mod FindingTexts
+pub mod FoundGroups
 pub mod Explained
 pub mod Findings
 pub mod Illegal

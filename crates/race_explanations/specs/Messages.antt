@@ -1,5 +1,5 @@
 -- What is told of a pair of lines that raced.
-use Rattle.std.specs.Prelude.{ℕ, List, [], ◌++◌, codes, Option, Some, None, unwrap_or}
+use Rattle.std.specs.Prelude.{ℕ, Bool, false, List, [], ◌++◌, codes, Option, Some, None, unwrap_or}
 use Rattle.race_pairs.specs.Refusals.{line_in}
 use Rattle.race_pairs.specs.declared.refusal.Reason.{Reason}
 use Rattle.race_pairs.specs.declared.refusal.Reason.TheVariants.{Race, ViewRead, Unset}
@@ -47,32 +47,32 @@ where_text (Race earlier refused) setting pair encounter =
 where_text ViewRead setting pair encounter = opened_text setting pair encounter.refused.strand encounter.outstanding
 where_text Unset setting pair encounter = []
 
--- What would order the two, where it is known.
-abbrev pub help_of : Reason → Setting → Pair → Encounter → Option (List ℕ)
-help_of (Race earlier refused) setting pair encounter =
-    sync_help_of setting (line_in setting.lines (unwrap_or encounter.onward 0)) encounter.parting
-help_of ViewRead setting pair encounter = move_help_of setting pair encounter.refused.strand encounter.outstanding
-help_of Unset setting pair encounter = Some put_help
+-- What orders the two, where it is known, and whether a sync that is named is sure to.
+abbrev pub help_of : Reason → Setting → Pair → Encounter → (is_sure : Bool) → Option (List ℕ)
+help_of (Race earlier refused) setting pair encounter is_sure =
+    sync_help_of setting (line_in setting.lines (unwrap_or encounter.onward 0)) is_sure encounter.parting
+help_of ViewRead setting pair encounter is_sure = move_help_of setting pair encounter.refused.strand encounter.outstanding
+help_of Unset setting pair encounter is_sure = Some put_help
 
 -- The same of one of several races that part at one spawn: what would order all of them is told once.
 abbrev pub own_help_of : Reason → Setting → Pair → Encounter → Option (List ℕ)
 own_help_of (Race earlier refused) setting pair encounter = None
-own_help_of reason setting pair encounter = help_of reason setting pair encounter
+own_help_of reason setting pair encounter = help_of reason setting pair encounter false
 
--- Where they part, and what would order them.
-abbrev pub advice_text : Reason → Setting → Pair → Encounter → List ℕ
-advice_text reason setting pair encounter = where_text reason setting pair encounter ++ help_note setting (help_of reason setting pair encounter)
+-- Where they part, and what orders them.
+abbrev pub advice_text : Reason → Setting → Pair → Encounter → (is_sure : Bool) → List ℕ
+advice_text reason setting pair encounter is_sure =
+    where_text reason setting pair encounter ++ help_note setting (help_of reason setting pair encounter is_sure)
 
--- All that is told of a pair of lines: the kind of the race and where it is, the two accesses with what led there, and what would order
--- them.
-abbrev pub message : Setting → Pair → List ℕ → Encounter → List ℕ
-message setting pair places encounter =
+-- All that is told of a pair of lines: the kind of the race and where it is, the two accesses with what led there, and what orders them.
+abbrev pub message : Setting → Pair → List ℕ → Encounter → (is_sure : Bool) → List ℕ
+message setting pair places encounter is_sure =
     title_text setting pair places ++ earlier_text pair.lines.reason setting pair encounter ++ refused_text setting pair encounter ++
-    advice_text pair.lines.reason setting pair encounter ++ codes "\n"
+    advice_text pair.lines.reason setting pair encounter is_sure ++ codes "\n"
 
 -- The same of a case.
-abbrev pub case_text : Setting → Case → List ℕ
-case_text setting case = message setting case.race.now.pair case.race.now.places.items case.encounter
+abbrev pub case_text : Setting → Case → (is_sure : Bool) → List ℕ
+case_text setting case is_sure = message setting case.race.now.pair case.race.now.places.items case.encounter is_sure
 
 -- The same of one of several races that part at one spawn.
 abbrev pub member_message : Setting → Pair → List ℕ → Encounter → List ℕ

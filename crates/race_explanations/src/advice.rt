@@ -1,18 +1,21 @@
 //! Where two strands part, and what would order them.
 
-ghost use Rattle.std.specs.Prelude.{◌≡◌, Some, IfOk, OnOk};
+ghost use Rattle.std.specs.Prelude.{◌≡◌, ◌++◌, Some, IfOk, OnOk};
 ghost use Rattle.std.specs.Option.{option_map};
 ghost use Rattle.trace_notes.specs.Places.{place_parts};
 ghost use Rattle.race_explanations.specs.Accounts.{Adds};
 ghost use Rattle.race_explanations.specs.Scenes.{setting_of};
 ghost use Rattle.race_explanations.specs.Advice.{between, line_on, spawn_line, function_word, parts_text, parted_text, open_text, opened_text};
-ghost use Rattle.race_explanations.specs.Advice.{spawner_word, place_word, rounds_words, sync_before, missing_help, sync_help, move_help, put_help};
+ghost use Rattle.race_explanations.specs.Advice.{spawner_word, place_word, rounds_words, doing_word, doing_in, between_words, where_words};
+ghost use Rattle.race_explanations.specs.Names.{noted_function};
+ghost use Rattle.race_explanations.specs.Paths.{line_words};
+ghost use Rattle.race_explanations.specs.Advice.{sync_place, order_words, missing_help, sync_help, move_help, put_help};
 ghost use Rattle.race_explanations.specs.Advice.{help_begun, help_note, sync_help_of, move_help_of, rounds_note, sync_note};
 
 use crate::account::Account;
 use crate::paths::{push_line, push_shown};
 use crate::scene::{Origin, Scene};
-use crate::words::{function_in, line_of};
+use crate::words::{are_in_one_function, function_in, line_of};
 use race_pairs::{OpenSpawn, Pair, Parting};
 use std::alloc::{AllocError, Global};
 use trace_notes::Place;
@@ -137,32 +140,111 @@ fn rounds_words(scene: &Scene<'_, '_>) -> &'static str
     }
 }
 
-/// Adds a sync in the function in which a line stands, before another line.
-fn push_sync_before(account: &mut Account, scene: &Scene<'_, '_>, line: u32, onward: u32)
-    ensures { Adds account.old (sync_before (setting_of scene.now) line onward) account.new }
+/// Adds what a function does.
+fn push_does(account: &mut Account, name: &str)
+    ensures { Adds account.old (doing_word (Some name.now)) account.new }
+{
+    push_name(account, name);
+    account.push_words(" does");
+}
+
+/// Adds what the function of a place does, where it is known.
+fn push_place_does(account: &mut Account, place: Option<Place<'_>>)
+    ensures { Adds account.old (doing_word (noted_function (option_map place_parts place.entry))) account.new }
+{
+    match place {
+        Some(
+            Place {
+                function: Some(name),
+                ..
+            },
+        ) => push_does(account, name),
+        _ => account.push_words("is done"),
+    }
+}
+
+/// Adds what the function does in which a line stands, where it is known.
+fn push_doing(account: &mut Account, scene: &Scene<'_, '_>, line: u32)
+    ensures { Adds account.old (doing_in (setting_of scene.now).origin line) account.new }
+{
+    match &scene.origin {
+        Origin::Program { program, .. } => push_does(account, function_in(program, line)),
+        Origin::Trace { notes } => push_place_does(account, notes.place_of(line)),
+    }
+}
+
+/// Adds words before a line.
+fn push_words_at(account: &mut Account, scene: &Scene<'_, '_>, words: &str, line: u32)
+    ensures { Adds account.old (words.now ++ line_words (setting_of scene.now).origin line) account.new }
+{
+    account.push_words(words);
+    push_line(account, scene, line);
+}
+
+/// Adds between which spawn and what another function does.
+fn push_between_lines(account: &mut Account, scene: &Scene<'_, '_>, line: u32, onward: u32)
+    ensures { Adds account.old (between_words (setting_of scene.now).origin line onward) account.new }
+{
+    push_words_at(account, scene, " between the spawn at ", line);
+    account.push_words(" and what ");
+    push_doing(account, scene, onward);
+    push_words_at(account, scene, " at ", onward);
+}
+
+/// Adds where a sync stands that comes before a line.
+fn push_where_before(account: &mut Account, scene: &Scene<'_, '_>, line: u32, onward: u32)
+    ensures { Adds account.old (where_words (setting_of scene.now).origin line onward) account.new }
+{
+    if are_in_one_function(scene, line, onward) {
+        push_words_at(account, scene, " before ", onward);
+    } else {
+        push_between_lines(account, scene, line, onward);
+    }
+}
+
+/// Adds a sync in the function that spawns on a line, before it goes on to another line.
+pub(crate) fn push_sync_place(account: &mut Account, scene: &Scene<'_, '_>, line: u32, onward: u32)
+    ensures { Adds account.old (sync_place (setting_of scene.now) line onward) account.new }
 {
     account.push_words("a `sync` in ");
     push_function(account, scene, line);
-    account.push_words(" before ");
-    push_line(account, scene, onward);
+    push_where_before(account, scene, line, onward);
 }
 
-/// Adds that a sync would order two strands.
-fn push_missing(account: &mut Account, scene: &Scene<'_, '_>, line: u32, onward: u32)
-    ensures { Adds account.old (missing_help (setting_of scene.now) line onward) account.new }
+/// What a sync does.
+pub(crate) fn order_words(is_sure: bool) -> &'static str
+    ensures { result.now ≡ order_words is_sure }
 {
-    push_sync_before(account, scene, line, onward);
-    account.push_words(" would order them");
+    if is_sure {
+        " would order them"
+    } else {
+        " may order them"
+    }
 }
 
-/// Adds what would order two strands that part at a spawn on one line, behind which the spawner goes on to another.
-fn push_sync_help(account: &mut Account, scene: &Scene<'_, '_>, line: u32, onward: u32)
-    ensures { Adds account.old (sync_help (setting_of scene.now) line onward) account.new }
+/// Adds that a sync orders strands.
+fn push_missing(account: &mut Account, scene: &Scene<'_, '_>, line: u32, onward: u32, is_sure: bool)
+    ensures { Adds account.old (missing_help (setting_of scene.now) line onward is_sure) account.new }
+{
+    push_sync_place(account, scene, line, onward);
+    let is_sure = is_sure && are_in_one_function(scene, line, onward);
+    account.push_words(order_words(is_sure));
+}
+
+/// Adds what orders two strands that part at a spawn on one line, behind which the spawner goes on to another.
+fn push_sync_help(
+    account: &mut Account,
+    scene: &Scene<'_, '_>,
+    line: u32,
+    onward: u32,
+    is_sure: bool,
+)
+    ensures { Adds account.old (sync_help (setting_of scene.now) line onward is_sure) account.new }
 {
     if line == onward {
         account.push_words(rounds_words(scene));
     } else {
-        push_missing(account, scene, line, onward);
+        push_missing(account, scene, line, onward, is_sure);
     }
 }
 
@@ -185,7 +267,7 @@ fn put_help() -> &'static str
 }
 
 /// Begins a note that helps.
-fn begin_help(account: &mut Account, scene: &Scene<'_, '_>)
+pub(crate) fn begin_help(account: &mut Account, scene: &Scene<'_, '_>)
     ensures { Adds account.old (help_begun (setting_of scene.now)) account.new }
 {
     account.begin_source_note(scene);
@@ -201,34 +283,36 @@ pub(crate) fn push_rounds(account: &mut Account, scene: &Scene<'_, '_>)
     account.push_words("\n");
 }
 
-/// Adds a note on a sync in the function in which a line stands, before another line, which does so.
+/// Adds a note on a sync in the function that spawns on a line, before it goes on to another line.
 pub(crate) fn push_sync(
     account: &mut Account,
     scene: &Scene<'_, '_>,
     line: u32,
     onward: u32,
-    does: &str,
+    is_sure: bool,
 )
-    ensures { Adds account.old (sync_note (setting_of scene.now) line onward does.now) account.new }
+    ensures { Adds account.old (sync_note (setting_of scene.now) line onward is_sure) account.new }
 {
     begin_help(account, scene);
-    push_sync_before(account, scene, line, onward);
-    account.push_words(does);
+    push_missing(account, scene, line, onward, is_sure);
+    account.push_words("\n");
 }
 
-/// Adds a note on what would order two strands that part there.
+/// Adds a note on what orders two strands that part there.
 pub(crate) fn push_sync_note(
     account: &mut Account,
     scene: &Scene<'_, '_>,
     onward: u32,
+    is_sure: bool,
     parting: Option<Parting>,
 )
-    ensures { Adds account.old (help_note (setting_of scene.now) (sync_help_of (setting_of scene.now) onward parting)) account.new }
+    ensures { Adds account.old (help_note (setting_of scene.now) (sync_help_of (setting_of scene.now) onward is_sure parting)) account.new }
 {
     match parting {
         Some(parting) => {
             begin_help(account, scene);
-            push_sync_help(account, scene, line_of(scene, parting.entry), onward);
+            let line = line_of(scene, parting.entry);
+            push_sync_help(account, scene, line, onward, is_sure);
             account.push_words("\n");
         }
         None => {}
@@ -301,17 +385,18 @@ pub(crate) fn push_opened(
     }
 }
 
-/// What would order two strands that part at a spawn on one line, behind which the spawner goes on to another.
+/// What orders two strands that part at a spawn on one line, behind which the spawner goes on to another.
 pub(crate) fn sync_help(
     alloc: Global,
     scene: &Scene<'_, '_>,
     line: u32,
     onward: u32,
+    is_sure: bool,
 ) -> Result<Vec<u8>, AllocError>
-    ensures { IfOk result (λ help. help.items ≡ sync_help (setting_of scene.now) line onward) }
+    ensures { IfOk result (λ help. help.items ≡ sync_help (setting_of scene.now) line onward is_sure) }
 {
     let mut account = Account::new(alloc);
-    push_sync_help(&mut account, scene, line, onward);
+    push_sync_help(&mut account, scene, line, onward, is_sure);
     account.end()
 }
 

@@ -44,21 +44,21 @@ pub(crate) struct Course {
 }
 
 /// The number of the entry at which the two strands of a race part, and 0 where they part at none.
-fn spawn_of(case: &Case<'_>) -> usize
-    ensures { result ≡ spawn_of case.now }
+fn spawn_of(encounter: &Encounter) -> usize
+    ensures { result ≡ spawn_of encounter.now }
 {
-    match case.encounter.parting {
+    match encounter.parting {
         Some(parting) => parting.entry,
         None => 0,
     }
 }
 
 /// Where the two strands of a race part, and where the spawner goes on.
-pub(crate) fn course_of(scene: &Scene<'_, '_>, case: &Case<'_>) -> Course
-    ensures { result ≡ course_of (setting_of scene.now) case.now }
+pub(crate) fn course_of(scene: &Scene<'_, '_>, encounter: &Encounter) -> Course
+    ensures { result ≡ course_of (setting_of scene.now) encounter.now }
 {
-    let spawn = spawn_of(case);
-    let onward = case.encounter.onward.unwrap_or(0);
+    let spawn = spawn_of(encounter);
+    let onward = encounter.onward.unwrap_or(0);
     let line = line_of(scene, onward);
     Course {
         spawn,

@@ -5,11 +5,13 @@ ghost use Rattle.model_histories.specs.declared.answer.Entry.{Entry};
 ghost use Rattle.race_pairs.specs.Digests.{IsDigest, most_of};
 ghost use Rattle.race_pairs.specs.Encounters.{IsRaceOf, AreRacesOf};
 ghost use Rattle.race_explanations.specs.Scenes.{setting_of};
-ghost use Rattle.race_explanations.specs.Findings.{kind_text, name_text, body_text, IsOfTrace, IsFinding, AddsAll, AddsPairs};
+ghost use Rattle.race_explanations.specs.Findings.{kind_text, name_text, body_text, help_text, own_text, IsOfTrace, IsFinding, AddsAll, AddsPairs};
 
 use crate::account::Account;
+use crate::case::course_of;
+use crate::lead::{Lead, lead_of};
 use crate::merge::join_finding;
-use crate::message::{push_advice, push_earlier, push_refused};
+use crate::message::{push_earlier, push_help, push_own_help, push_refused, push_where};
 use crate::scene::Scene;
 use crate::title::{display_names, push_list, push_reason, sort_word};
 use race_pairs::{Encounter, Pair, Race, Reason};
@@ -26,8 +28,16 @@ pub struct Finding {
     pub names: BTreeSet<Vec<u8>>,
     /// How often it came.
     pub times: usize,
-    /// The two accesses with what led there, and what would order them.
+    /// The two accesses with what led there, and where they part.
     pub body: Vec<u8>,
+    /// What orders the two, where a sync is sure to.
+    pub sure_help: Vec<u8>,
+    /// The same, where it is not.
+    pub open_help: Vec<u8>,
+    /// The same where what orders all of a group is told once.
+    pub own_help: Vec<u8>,
+    /// The spawn at which the two strands part.
+    pub lead: Option<Lead>,
 }
 
 /// Written out, so that what lets it go calls one function.
@@ -39,6 +49,10 @@ impl Drop for Finding {
             names: _,
             times: _,
             body: _,
+            sure_help: _,
+            open_help: _,
+            own_help: _,
+            lead: _,
         } = self;
     }
 }
@@ -55,6 +69,10 @@ impl Finding {
             names,
             times,
             body: _,
+            sure_help: _,
+            open_help: _,
+            own_help: _,
+            lead: _,
         } = self;
         (names, times)
     }
@@ -86,7 +104,7 @@ fn name_of(
     account.end()
 }
 
-/// The two accesses with what led there, and what would order them.
+/// The two accesses with what led there, and where they part.
 fn body_of(
     alloc: Global,
     scene: &Scene<'_, '_>,
@@ -98,64 +116,109 @@ fn body_of(
     let mut account = Account::new(alloc);
     push_earlier(&mut account, scene, pair, encounter);
     push_refused(&mut account, scene, pair, encounter);
-    push_advice(&mut account, scene, pair, encounter);
-    account.push_words("\n");
+    push_where(&mut account, scene, pair, encounter);
     account.end()
 }
 
-/// The finding of a pair of places.
-pub fn finding_of(alloc: Global, scene: &Scene<'_, '_>, race: &Race) -> Result<Finding, AllocError>
+/// What orders the two, by whether a sync is sure to.
+fn help_text(
+    alloc: Global,
+    scene: &Scene<'_, '_>,
+    pair: &Pair,
+    encounter: &Encounter,
+    is_sure: bool,
+) -> Result<Vec<u8>, AllocError>
+    ensures { IfOk result (λ text. text.items ≡ help_text (setting_of scene.now) pair.now encounter.now is_sure) }
+{
+    let mut account = Account::new(alloc);
+    push_help(&mut account, scene, pair, encounter, is_sure);
+    account.end()
+}
+
+/// What orders the two where what orders all of a group is told once.
+fn own_text(
+    alloc: Global,
+    scene: &Scene<'_, '_>,
+    pair: &Pair,
+    encounter: &Encounter,
+) -> Result<Vec<u8>, AllocError>
+    ensures { IfOk result (λ text. text.items ≡ own_text (setting_of scene.now) pair.now encounter.now) }
+{
+    let mut account = Account::new(alloc);
+    push_own_help(&mut account, scene, pair, encounter);
+    account.end()
+}
+
+/// The finding of a pair of places of the trace with this number.
+pub fn finding_of(
+    alloc: Global,
+    scene: &Scene<'_, '_>,
+    trace: usize,
+    race: &Race,
+) -> Result<Finding, AllocError>
     requires race { (entries : List Entry) × IsRaceOf entries scene.now.digest.now race.now }
     requires trace { IsOfTrace (setting_of scene.now).origin }
     ensures { IfOk result (λ finding. (entries : List Entry) → IsRaceOf entries scene.now.digest.now race.now →
-        IsFinding (setting_of scene.now) entries race.now.pair finding) }
+        IsFinding (setting_of scene.now) trace entries race.now.pair finding) }
 {
     let encounter = Encounter::new(alloc, scene.digest, race)?;
+    let pair = &race.pair;
     let places = race.places.as_slice();
-    let reason = race.pair.lines.reason;
+    let reason = pair.lines.reason;
     let kind = kind_of(alloc, scene, reason)?;
     let name = name_of(alloc, scene, reason, places)?;
     let names = display_names(alloc, scene, reason, places)?;
-    let body = body_of(alloc, scene, &race.pair, &encounter)?;
+    let body = body_of(alloc, scene, pair, &encounter)?;
+    let sure_help = help_text(alloc, scene, pair, &encounter, true)?;
+    let open_help = help_text(alloc, scene, pair, &encounter, false)?;
+    let own_help = own_text(alloc, scene, pair, &encounter)?;
+    let course = course_of(scene, &encounter);
+    let lead = lead_of(alloc, scene, trace, pair.spawn, course)?;
     Ok(Finding {
         kind,
         name,
         names,
-        times: race.pair.times,
+        times: pair.times,
         body,
+        sure_help,
+        open_help,
+        own_help,
+        lead,
     })
 }
 
-/// Adds the findings of pairs.
+/// Adds the findings of pairs of the trace with this number.
 fn add_all(
     alloc: Global,
     scene: &Scene<'_, '_>,
+    trace: usize,
     races: &[Race],
     findings: &mut Vec<Finding>,
 ) -> Result<(), AllocError>
     requires races { (entries : List Entry) × AreRacesOf entries scene.now.digest.now races.now }
     requires trace { IsOfTrace (setting_of scene.now).origin }
     ensures { OnOk result ((entries : List Entry) → AreRacesOf entries scene.now.digest.now races.now →
-        AddsAll (setting_of scene.now) entries (map (λ race. race.pair) races.now) findings.old.items findings.new.items) }
+        AddsAll (setting_of scene.now) trace entries (map (λ race. race.pair) races.now) findings.old.items findings.new.items) }
 {
     for race in races {
-        let finding = finding_of(alloc, scene, race)?;
+        let finding = finding_of(alloc, scene, trace, race)?;
         join_finding(findings, finding)?;
     }
     Ok(())
 }
 
-/// Adds the findings of the first pairs of a trace, and answers how many pairs it has.
+/// Adds the findings of the first pairs of the trace with this number, and answers how many pairs it has.
 pub(crate) fn add_pairs(
     alloc: Global,
     scene: &Scene<'_, '_>,
+    trace: usize,
     findings: &mut Vec<Finding>,
 ) -> Result<usize, AllocError>
     requires digest { (entries : List Entry) × IsDigest entries scene.now.digest.now }
     requires trace { IsOfTrace (setting_of scene.now).origin }
     ensures { IfOk result (λ count. (entries : List Entry) → IsDigest entries scene.now.digest.now →
-        AddsPairs (setting_of scene.now) entries (most_of scene.now.digest.now) findings.old.items findings.new.items count) }
+        AddsPairs (setting_of scene.now) trace entries (most_of scene.now.digest.now) findings.old.items findings.new.items count) }
 {
-    add_all(alloc, scene, scene.digest.races(), findings)?;
+    add_all(alloc, scene, trace, scene.digest.races(), findings)?;
     Ok(scene.digest.pair_count())
 }

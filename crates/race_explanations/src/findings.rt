@@ -7,14 +7,14 @@ ghost use Rattle.trace_text.specs.Traces.{contents as trace_contents};
 ghost use Rattle.race_explanations.specs.Accounts.{Adds};
 ghost use Rattle.race_explanations.specs.Explained.{trace_setting};
 ghost use Rattle.race_explanations.specs.Extents.{most_pairs};
-ghost use Rattle.race_explanations.specs.Findings.{found_of, nothing_found, untold_in, AddsTrace, finding_text, findings_text, findings_left_out};
+ghost use Rattle.race_explanations.specs.Findings.{found_of, nothing_found, untold_in, AddsTrace, findings_left_out};
 ghost use Rattle.race_explanations.specs.Findings.{requests_text, at_pairs, found_summary, clean_found_text, races_found_text, found_text};
 
 use crate::account::Account;
-use crate::extent::{Extent, most_pairs};
+use crate::extent::{Extent, most_pairs, most_shown};
 use crate::finding::{Finding, add_pairs};
+use crate::found_told::tell_groups;
 use crate::settings::trace_scene;
-use crate::title::push_left_out;
 use race_pairs::Digest;
 use source_quotes::push_count;
 use std::alloc::{AllocError, Global};
@@ -58,28 +58,6 @@ fn push_untold(text: &mut Vec<u8>, file: &str, most: usize, count: usize) -> Res
     push_words(text, " of places in ")?;
     push_words(text, file)?;
     push_words(text, "\n")
-}
-
-/// Tells of a pair of places.
-fn tell_finding(account: &mut Account, finding: &Finding)
-    ensures { Adds account.old (finding_text finding.now) account.new }
-{
-    account.push_bytes(finding.kind.as_slice());
-    account.push_bytes(finding.name.as_slice());
-    push_left_out(account, 1, finding.names.len());
-    account.push_words(", ");
-    account.push_count(finding.times, "time");
-    account.push_words("\n");
-    account.push_bytes(finding.body.as_slice());
-}
-
-/// Tells of pairs of places.
-fn tell_findings(account: &mut Account, findings: &[Finding])
-    ensures { Adds account.old (findings_text findings.now) account.new }
-{
-    for finding in findings {
-        tell_finding(account, finding);
-    }
 }
 
 /// Tells how many pairs are kept, and not told.
@@ -138,7 +116,7 @@ impl Findings {
             AddsTrace extent file.now (trace_setting is_painted notes.now (trace_contents trace.now).known entries) entries (found_of self.old) (found_of self.new)) }
     {
         let scene = trace_scene(is_painted, notes, trace, digest);
-        let count = add_pairs(alloc, &scene, &mut self.list)?;
+        let count = add_pairs(alloc, &scene, self.traces, &mut self.list)?;
         push_untold(&mut self.untold, file, most_pairs(extent), count)?;
         self.refusals = self.refusals.saturating_add(digest.refusals);
         self.requests = self.requests.saturating_add(digest.lines.len());
@@ -186,35 +164,36 @@ impl Findings {
     }
 
     /// Tells what raced.
-    fn tell_races(&self, extent: Extent, account: &mut Account)
+    fn tell_races(&self, alloc: Global, extent: Extent, account: &mut Account)
         ensures { Adds account.old (races_found_text extent (found_of self.now)) account.new }
     {
         let most = most_pairs(extent);
         let (first, _) = self.list.as_slice().split_at(self.list.len().min(most));
-        tell_findings(account, first);
+        tell_groups(alloc, account, first, most_shown(extent));
         tell_left_out(account, most, self.list.len());
         account.push_bytes(self.untold.as_slice());
         self.tell_summary(account);
     }
 
     /// Tells what raced, or that nothing was refused.
-    fn tell(&self, extent: Extent, account: &mut Account)
+    fn tell(&self, alloc: Global, extent: Extent, account: &mut Account)
         ensures { Adds account.old (found_text extent (found_of self.now)) account.new }
     {
         if self.is_clean() {
             self.tell_clean(account);
         } else {
-            self.tell_races(extent, account);
+            self.tell_races(alloc, extent, account);
         }
     }
 
-    /// What is told of all traces: each of the first pairs of places as where its trace is told alone and has no other, with the counts of all that
-    /// are told alike, how many more there are, and how many refusals; or that nothing was refused. Errors where there is no memory.
+    /// What is told of all traces: each of the first pairs of places, with the counts of all that are told alike, in groups of those that part at
+    /// spawns that are told alike, as those of one trace; how many more there are, and how many refusals; or that nothing was refused.
+    /// Errors where there is no memory.
     pub fn to_message(&self, alloc: Global, extent: Extent) -> Result<Vec<u8>, AllocError>
         ensures { IfOk result (λ text. text.items ≡ found_text extent (found_of self.now)) }
     {
         let mut account = Account::new(alloc);
-        self.tell(extent, &mut account);
+        self.tell(alloc, extent, &mut account);
         account.end()
     }
 }

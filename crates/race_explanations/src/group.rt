@@ -4,7 +4,7 @@ ghost use Rattle.std.specs.Prelude.{◌≡◌, ◌++◌, None, false, IfOk, OnOk
 ghost use Rattle.race_explanations.specs.Accounts.{Adds};
 ghost use Rattle.race_explanations.specs.Scenes.{setting_of};
 ghost use Rattle.race_explanations.specs.Groups.{alone_at, alone_text, member_at, members_text, course_at, courses_of, before, nearer, first_among, is_ordered, has_round, leaves_open};
-ghost use Rattle.race_explanations.specs.Groups.{pairs_words, beside_text, first_text, rounds_text, is_sure, order_words, sync_text, head_text, behind_text, many_text, text_at_line, group_text, groups_text};
+ghost use Rattle.race_explanations.specs.Groups.{pairs_words, beside_text, first_text, rounds_text, is_sure, is_sure_of, is_sure_at, is_group_sure, sync_text, head_text, behind_text, many_text, text_at_line, group_text, groups_text};
 
 use crate::account::Account;
 use crate::advice::{push_function, push_rounds, push_sync};
@@ -32,12 +32,13 @@ fn push_alone_at(
     account: &mut Account,
     scene: &Scene<'_, '_>,
     cases: &[Case<'_>],
+    is_sure: bool,
     place: usize,
 )
-    ensures { Adds account.old (alone_at (setting_of scene.now) cases.now place) account.new }
+    ensures { Adds account.old (alone_at (setting_of scene.now) cases.now is_sure place) account.new }
 {
     match cases.get(place) {
-        Some(case) => push_case(alloc, account, scene, case),
+        Some(case) => push_case(alloc, account, scene, case, is_sure),
         None => {}
     }
 }
@@ -48,12 +49,13 @@ fn push_alone(
     account: &mut Account,
     scene: &Scene<'_, '_>,
     cases: &[Case<'_>],
+    is_sure: bool,
     places: &[usize],
 )
-    ensures { Adds account.old (alone_text (setting_of scene.now) cases.now places.now) account.new }
+    ensures { Adds account.old (alone_text (setting_of scene.now) cases.now is_sure places.now) account.new }
 {
     for place in places {
-        push_alone_at(alloc, account, scene, cases, *place);
+        push_alone_at(alloc, account, scene, cases, is_sure, *place);
     }
 }
 
@@ -99,7 +101,7 @@ fn add_course(
 {
     match cases.get(place) {
         Some(case) => {
-            courses.push(course_of(scene, case))?;
+            courses.push(course_of(scene, &case.encounter))?;
             Ok(())
         }
         None => Ok(()),
@@ -202,19 +204,53 @@ fn is_sure(scene: &Scene<'_, '_>, line: u32, first: Course, courses: &[Course]) 
     are_in_one_function(scene, line, first.line) && !leaves_open(first, courses)
 }
 
-/// What a sync does.
-fn order_words(is_sure: bool) -> &'static str
-    ensures { result.now ≡ order_words is_sure }
+/// The same, where there is a first one.
+fn is_sure_of(scene: &Scene<'_, '_>, line: u32, first: Option<Course>, courses: &[Course]) -> bool
+    ensures { result ≡ is_sure_of (setting_of scene.now) line first courses.now }
 {
-    if is_sure {
-        " would order them\n"
-    } else {
-        " may order them\n"
+    match first {
+        Some(first) => is_sure(scene, line, first, courses),
+        None => false,
+    }
+}
+
+/// Whether the sync that is told of the races at these places, which part at spawns on a line, orders them all.
+fn is_sure_at(
+    alloc: Global,
+    scene: &Scene<'_, '_>,
+    cases: &[Case<'_>],
+    line: u32,
+    places: &[usize],
+) -> Result<bool, AllocError>
+    ensures { IfOk result (λ is_sure. is_sure ≡ is_sure_at (setting_of scene.now) cases.now line places.now) }
+{
+    let courses = courses_of(alloc, scene, cases, places)?;
+    let first = first_among(courses.as_slice());
+    Ok(is_sure_of(scene, line, first, courses.as_slice()))
+}
+
+/// Whether the sync that is told of the races of a group orders them all. Errors where there is no memory.
+pub fn is_group_sure(
+    alloc: Global,
+    scene: &Scene<'_, '_>,
+    cases: &[Case<'_>],
+    group: &Group,
+) -> Result<bool, AllocError>
+    ensures { IfOk result (λ is_sure. is_sure ≡ is_group_sure (setting_of scene.now) cases.now group.now) }
+{
+    match group.spawn {
+        Some(line) => is_sure_at(alloc, scene, cases, line, group.places.as_slice()),
+        None => Ok(false),
     }
 }
 
 /// Adds beside what runs what is spawned on a line.
-fn push_beside(account: &mut Account, scene: &Scene<'_, '_>, line: u32, first: Option<Course>)
+pub(crate) fn push_beside(
+    account: &mut Account,
+    scene: &Scene<'_, '_>,
+    line: u32,
+    first: Option<Course>,
+)
     ensures { Adds account.old (beside_text (setting_of scene.now) line first) account.new }
 {
     match first {
@@ -268,8 +304,8 @@ fn push_sync_of(
 {
     match first {
         Some(first) => {
-            let does = order_words(is_sure(scene, line, first, courses));
-            push_sync(account, scene, line, first.line, does);
+            let is_sure = is_sure(scene, line, first, courses);
+            push_sync(account, scene, line, first.line, is_sure);
         }
         None => {}
     }
@@ -339,10 +375,12 @@ fn push_at_line(
     ensures { Adds account.old (text_at_line (setting_of scene.now) most cases.now line places.now) account.new }
 {
     if places.len() > 1 {
-        push_many(alloc, account, scene, cases, line, places, most);
-    } else {
-        push_alone(alloc, account, scene, cases, places);
+        return push_many(alloc, account, scene, cases, line, places, most);
     }
+    let Ok(is_sure) = is_sure_at(alloc, scene, cases, line, places) else {
+        return account.fail();
+    };
+    push_alone(alloc, account, scene, cases, is_sure, places);
 }
 
 /// Tells of a group of races.
@@ -366,7 +404,7 @@ fn push_group(
             group.places.as_slice(),
             most,
         ),
-        None => push_alone(alloc, account, scene, cases, group.places.as_slice()),
+        None => push_alone(alloc, account, scene, cases, false, group.places.as_slice()),
     }
 }
 

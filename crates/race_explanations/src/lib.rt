@@ -15,8 +15,11 @@ mod explanations;
 mod extent;
 mod finding;
 mod findings;
+mod found_groups;
+mod found_told;
 mod group;
 mod illegal;
+mod lead;
 mod merge;
 mod message;
 mod paths;
@@ -31,6 +34,8 @@ pub use explanations::{explanation, trace_explanation};
 pub use extent::{Extent, most_pairs};
 pub use finding::{Finding, finding_of};
 pub use findings::Findings;
+pub use found_groups::{are_sure, group_findings};
+pub use group::is_group_sure;
 pub use illegal::{
     Illegality, at_of, find_illegality, help_words, illegal_explanation, request_line, strand_of,
     title_words,

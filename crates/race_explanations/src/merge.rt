@@ -11,7 +11,9 @@ use std::collections::BTreeSet;
 fn is_alike(one: &Finding, other: &Finding) -> bool
     ensures { result ≡ is_alike one.now other.now }
 {
-    one.kind.as_slice() == other.kind.as_slice() && one.body.as_slice() == other.body.as_slice()
+    one.kind.as_slice() == other.kind.as_slice()
+        && one.body.as_slice() == other.body.as_slice()
+        && one.sure_help.as_slice() == other.sure_help.as_slice()
 }
 
 /// The place of the first finding that is told as another one.

@@ -72,7 +72,12 @@ pub(crate) fn push_refused(
 }
 
 /// Adds where the two strands of a race part, and of a view-read race which spawn is outstanding at one of them alone.
-fn push_where(account: &mut Account, scene: &Scene<'_, '_>, pair: &Pair, encounter: &Encounter)
+pub(crate) fn push_where(
+    account: &mut Account,
+    scene: &Scene<'_, '_>,
+    pair: &Pair,
+    encounter: &Encounter,
+)
     ensures { Adds account.old (where_text pair.now.lines.reason (setting_of scene.now) pair.now encounter.now) account.new }
 {
     let refused = encounter.refused.strand;
@@ -89,7 +94,12 @@ fn push_where(account: &mut Account, scene: &Scene<'_, '_>, pair: &Pair, encount
 }
 
 /// Adds what would order the two of one of several races that part at one spawn, where it is not told of all of them.
-fn push_own_help(account: &mut Account, scene: &Scene<'_, '_>, pair: &Pair, encounter: &Encounter)
+pub(crate) fn push_own_help(
+    account: &mut Account,
+    scene: &Scene<'_, '_>,
+    pair: &Pair,
+    encounter: &Encounter,
+)
     ensures { Adds account.old (help_note (setting_of scene.now) (own_help_of pair.now.lines.reason (setting_of scene.now) pair.now encounter.now)) account.new }
 {
     match pair.lines.reason {
@@ -102,14 +112,20 @@ fn push_own_help(account: &mut Account, scene: &Scene<'_, '_>, pair: &Pair, enco
     }
 }
 
-/// Adds what would order the two.
-fn push_help(account: &mut Account, scene: &Scene<'_, '_>, pair: &Pair, encounter: &Encounter)
-    ensures { Adds account.old (help_note (setting_of scene.now) (help_of pair.now.lines.reason (setting_of scene.now) pair.now encounter.now)) account.new }
+/// Adds what orders the two.
+pub(crate) fn push_help(
+    account: &mut Account,
+    scene: &Scene<'_, '_>,
+    pair: &Pair,
+    encounter: &Encounter,
+    is_sure: bool,
+)
+    ensures { Adds account.old (help_note (setting_of scene.now) (help_of pair.now.lines.reason (setting_of scene.now) pair.now encounter.now is_sure)) account.new }
 {
     match pair.lines.reason {
         Reason::Race { .. } => {
             let onward = line_of(scene, encounter.onward.unwrap_or(0));
-            push_sync_note(account, scene, onward, encounter.parting);
+            push_sync_note(account, scene, onward, is_sure, encounter.parting);
         }
         Reason::ViewRead => {
             let refused = encounter.refused.strand;
@@ -119,19 +135,20 @@ fn push_help(account: &mut Account, scene: &Scene<'_, '_>, pair: &Pair, encounte
     }
 }
 
-/// What would order two strands that part there, where they part.
+/// What orders two strands that part there, where they part.
 fn sync_help_of(
     alloc: Global,
     scene: &Scene<'_, '_>,
     onward: u32,
+    is_sure: bool,
     parting: Option<Parting>,
 ) -> Result<Option<Vec<u8>>, AllocError>
-    ensures { IfOk result (λ help. option_map (λ words. words.items) help ≡ sync_help_of (setting_of scene.now) onward parting) }
+    ensures { IfOk result (λ help. option_map (λ words. words.items) help ≡ sync_help_of (setting_of scene.now) onward is_sure parting) }
 {
     match parting {
         Some(parting) => {
             let line = line_of(scene, parting.entry);
-            Ok(Some(sync_help(alloc, scene, line, onward)?))
+            Ok(Some(sync_help(alloc, scene, line, onward, is_sure)?))
         }
         None => Ok(None),
     }
@@ -157,19 +174,21 @@ fn move_help_of(
     }
 }
 
-/// What would order the two accesses of a race, in a sentence without an end, where it is known. Errors where there is no memory.
+/// What orders the two accesses of a race, in a sentence without an end, where it is known; of a sync it is told that it would, where the
+/// caller is sure, or else that it may. Errors where there is no memory.
 pub fn help_of(
     alloc: Global,
     scene: &Scene<'_, '_>,
     pair: &Pair,
     encounter: &Encounter,
+    is_sure: bool,
 ) -> Result<Option<Vec<u8>>, AllocError>
-    ensures { IfOk result (λ help. option_map (λ words. words.items) help ≡ help_of pair.now.lines.reason (setting_of scene.now) pair.now encounter.now) }
+    ensures { IfOk result (λ help. option_map (λ words. words.items) help ≡ help_of pair.now.lines.reason (setting_of scene.now) pair.now encounter.now is_sure) }
 {
     match pair.lines.reason {
         Reason::Race { .. } => {
             let onward = line_of(scene, encounter.onward.unwrap_or(0));
-            sync_help_of(alloc, scene, onward, encounter.parting)
+            sync_help_of(alloc, scene, onward, is_sure, encounter.parting)
         }
         Reason::ViewRead => {
             let refused = encounter.refused.strand;
@@ -179,17 +198,18 @@ pub fn help_of(
     }
 }
 
-/// Adds where the two part, and what would order them.
-pub(crate) fn push_advice(
+/// Adds where the two part, and what orders them.
+fn push_advice(
     account: &mut Account,
     scene: &Scene<'_, '_>,
     pair: &Pair,
     encounter: &Encounter,
+    is_sure: bool,
 )
-    ensures { Adds account.old (advice_text pair.now.lines.reason (setting_of scene.now) pair.now encounter.now) account.new }
+    ensures { Adds account.old (advice_text pair.now.lines.reason (setting_of scene.now) pair.now encounter.now is_sure) account.new }
 {
     push_where(account, scene, pair, encounter);
-    push_help(account, scene, pair, encounter);
+    push_help(account, scene, pair, encounter, is_sure);
 }
 
 /// Adds all that is told of a pair of lines.
@@ -200,13 +220,14 @@ fn push_message(
     pair: &Pair,
     places: &[u32],
     encounter: &Encounter,
+    is_sure: bool,
 )
-    ensures { Adds account.old (message (setting_of scene.now) pair.now places.now encounter.now) account.new }
+    ensures { Adds account.old (message (setting_of scene.now) pair.now places.now encounter.now is_sure) account.new }
 {
     push_title(alloc, account, scene, pair, places);
     push_earlier(account, scene, pair, encounter);
     push_refused(account, scene, pair, encounter);
-    push_advice(account, scene, pair, encounter);
+    push_advice(account, scene, pair, encounter, is_sure);
     account.push_words("\n");
 }
 
@@ -216,8 +237,9 @@ pub(crate) fn push_case(
     account: &mut Account,
     scene: &Scene<'_, '_>,
     case: &Case<'_>,
+    is_sure: bool,
 )
-    ensures { Adds account.old (case_text (setting_of scene.now) case.now) account.new }
+    ensures { Adds account.old (case_text (setting_of scene.now) case.now is_sure) account.new }
 {
     push_message(
         alloc,
@@ -226,6 +248,7 @@ pub(crate) fn push_case(
         &case.race.pair,
         case.race.places.as_slice(),
         &case.encounter,
+        is_sure,
     );
 }
 

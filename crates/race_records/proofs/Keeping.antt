@@ -16,38 +16,38 @@ use Rattle.race_pairs.specs.Pairs.{ArePairs}
 use Rattle.race_records.specs.Several.{Kept, with_kept, IsRace, AddsKept, none, more, Recorded, untold_in, AddsPairs, AddsTrace}
 
 -- no pair
-pub none_kept : (setting : Setting) (entries : List Entry) (old : Kept) → AddsKept setting entries old [] old
-none_kept setting entries old = none
+pub none_kept : (setting : Setting) (trace : ℕ) (entries : List Entry) (old : Kept) → AddsKept setting trace entries old [] old
+none_kept setting trace entries old = none
 
 -- one pair more
-pub one_kept : (setting : Setting) (entries : List Entry) (old one two : Kept) (pairs : List Pair) (index : ℕ) (d : Pair) (finding : Finding) (race : RaceParts) →
-    index < length pairs → AddsKept setting entries old (take index pairs) one → IsFinding setting entries (get_or pairs index d) finding →
-    IsRace setting entries (get_or pairs index d) race → two ≡ with_kept one finding race → AddsKept setting entries old (take (index + 1) pairs) two
-one_kept setting entries old one two pairs index d finding race below before found is_race is =
-    subst (λ (first : List Pair). AddsKept setting entries old first two) (sym (take_more pairs index d below))
-    (subst (λ (kept : Kept). AddsKept setting entries old (take index pairs ++ get_or pairs index d ∷ []) kept) (sym is)
+pub one_kept : (setting : Setting) (trace : ℕ) (entries : List Entry) (old one two : Kept) (pairs : List Pair) (index : ℕ) (d : Pair) (finding : Finding) (race : RaceParts) →
+    index < length pairs → AddsKept setting trace entries old (take index pairs) one → IsFinding setting trace entries (get_or pairs index d) finding →
+    IsRace setting entries (get_or pairs index d) race → two ≡ with_kept one finding race → AddsKept setting trace entries old (take (index + 1) pairs) two
+one_kept setting trace entries old one two pairs index d finding race below before found is_race is =
+    subst (λ (first : List Pair). AddsKept setting trace entries old first two) (sym (take_more pairs index d below))
+    (subst (λ (kept : Kept). AddsKept setting trace entries old (take index pairs ++ get_or pairs index d ∷ []) kept) (sym is)
     (more (get_or pairs index d) finding race before found is_race))
 
 -- one pair more of those of races
-pub race_kept : (setting : Setting) (entries : List Entry) (old one two : Kept) (races : List Race) (index : ℕ) (d : Race) (finding : Finding) (race : RaceParts) →
-    index < length races → AddsKept setting entries old (take index (map (λ (race : Race). race.pair) races)) one →
-    IsFinding setting entries (get_or races index d).pair finding → IsRace setting entries (get_or races index d).pair race →
-    two ≡ with_kept one finding race → AddsKept setting entries old (take (index + 1) (map (λ (race : Race). race.pair) races)) two
-race_kept setting entries old one two races index d finding race below before found is_race is =
+pub race_kept : (setting : Setting) (trace : ℕ) (entries : List Entry) (old one two : Kept) (races : List Race) (index : ℕ) (d : Race) (finding : Finding) (race : RaceParts) →
+    index < length races → AddsKept setting trace entries old (take index (map (λ (race : Race). race.pair) races)) one →
+    IsFinding setting trace entries (get_or races index d).pair finding → IsRace setting entries (get_or races index d).pair race →
+    two ≡ with_kept one finding race → AddsKept setting trace entries old (take (index + 1) (map (λ (race : Race). race.pair) races)) two
+race_kept setting trace entries old one two races index d finding race below before found is_race is =
     let at = sym (get_or-map (λ (race : Race). race.pair) races index d d.pair below) in
-    one_kept setting entries old one two (map (λ (race : Race). race.pair) races) index d.pair finding race
+    one_kept setting trace entries old one two (map (λ (race : Race). race.pair) races) index d.pair finding race
     (omega (arith, below, length-map races (λ (race : Race). race.pair))) before
-    (subst (λ (pair : Pair). IsFinding setting entries pair finding) at found) (subst (λ (pair : Pair). IsRace setting entries pair race) at is_race) is
+    (subst (λ (pair : Pair). IsFinding setting trace entries pair finding) at found) (subst (λ (pair : Pair). IsRace setting entries pair race) at is_race) is
 
 -- the first pairs of a trace
 pub pairs_added : (setting : Setting) (entries : List Entry) (most : ℕ) (old new : Recorded) (pairs front : List Pair) (count : ℕ) → ArePairs entries pairs →
-    front ≡ take most pairs → count ≡ length pairs → AddsKept setting entries old.kept front new.kept →
+    front ≡ take most pairs → count ≡ length pairs → AddsKept setting old.traces entries old.kept front new.kept →
     new ≡ record old { kept = new.kept } → AddsPairs setting entries most old new count
 pairs_added setting entries most old new pairs front count are is count_is adds rest = record {
   pairs = pairs;
   are_pairs = are;
   count_is = count_is;
-  kept = subst (λ (some : List Pair). AddsKept setting entries old.kept some new.kept) is adds;
+  kept = subst (λ (some : List Pair). AddsKept setting old.traces entries old.kept some new.kept) is adds;
   rest = rest;
 }
 
@@ -63,7 +63,7 @@ trace_added extent most file setting other entries digest old mid new count same
     let long : length digest.lines.items ≡ length entries = ap length is.lines ∙ length-map entries (λ (entry : Entry). entry.request.line) in record {
       pairs = pairs.pairs;
       are_pairs = pairs.are_pairs;
-      kept = subst (λ (k : Kept). AddsKept other entries old.kept (take (most_pairs extent) pairs.pairs) k) (sym kept) pairs.kept;
+      kept = subst (λ (k : Kept). AddsKept other old.traces entries old.kept (take (most_pairs extent) pairs.pairs) k) (sym kept) pairs.kept;
       untold_is = untold ∙ ap (λ (r : Recorded). r.untold ++ untold_in file (most_pairs extent) count) pairs.rest ∙ ap (λ n. old.untold ++ untold_in file (most_pairs extent) n) pairs.count_is;
       refusals_are = refusals ∙ ap (λ (r : Recorded). added_up r.refusals digest.refusals) pairs.rest ∙ ap (λ n. added_up old.refusals n) is.refusals;
       requests_are = requests ∙ ap (λ (r : Recorded). added_up r.requests (length digest.lines.items)) pairs.rest ∙ ap (λ n. added_up old.requests n) long;

@@ -1,5 +1,5 @@
 -- What is told of the entries of a run or a trace.
-use Rattle.std.proofs.Common.{◌≡◌, ℕ, suc, false, ◌+◌, ◌<◌, List, [], ◌∷◌, ◌++◌, length, take, drop, map, get_or, sym, subst, ap, ◌∙◌, append_assoc, append-nil, arith}
+use Rattle.std.proofs.Common.{◌≡◌, ℕ, Option, suc, false, ◌+◌, ◌<◌, List, [], ◌++◌, length, take, drop, map, get_or, sym, subst, ap, ◌∙◌, append_assoc, arith}
 use Rattle.std.proofs.lemmas.List.{drop_more}
 use Rattle.serde_json.specs.Data.{Data}
 use Rattle.model_histories.specs.declared.answer.Entry.{Entry}
@@ -28,10 +28,10 @@ use Rattle.race_records.specs.Documents.{SummaryParts, document_told, summary_of
 -- Behind what is told of the groups before one, it and those behind it are told.
 pub group_more : (setting : Setting) (cases : List Case) (groups : List Group) (index : ℕ) (d : Group) (told new whole : List Data) → index < length groups →
     told ++ groups_told setting cases (suc index) (drop index groups) ≡ whole →
-    new ≡ told ++ group_told setting cases (suc index) (get_or groups index d).places.items →
+    new ≡ told ++ group_told setting cases (suc index) (get_or groups index d) →
     new ++ groups_told setting cases (suc (index + 1)) (drop (index + 1) groups) ≡ whole
 group_more setting cases groups index d told new whole below before is =
-    let one = group_told setting cases (suc index) (get_or groups index d).places.items in
+    let one = group_told setting cases (suc index) (get_or groups index d) in
     let behind = groups_told setting cases (suc (suc index)) (drop (index + 1) groups) in
     let step : groups_told setting cases (suc index) (drop index groups) ≡ one ++ behind =
     ap (groups_told setting cases (suc index)) (drop_more groups index d below) in
@@ -60,11 +60,11 @@ entries_recorded form outcome traces extent setting entries memory runs pairs ra
 }
 
 -- what is told of a run, with the warnings of its program
-pub run_recorded : (form : RecordForm) (outcome : Outcome) (extent : Extent) (file : List ℕ) (source : List (List ℕ)) (program : Contents) (entries : List Entry) (memory : Data)
-    (warnings : List Warning) (setting : Setting) (warned : Warned) (runs : List (List ℕ)) (text : List ℕ) → AreWarnings program warnings →
+pub run_recorded : (form : RecordForm) (outcome : Outcome) (extent : Extent) (file : List ℕ) (source : List (List ℕ)) (program : Contents) (wraps : ℕ → Option ℕ) (entries : List Entry) (memory : Data)
+    (warnings : List Warning) (setting : Setting) (warned : Warned) (runs : List (List ℕ)) (text : List ℕ) → AreWarnings program wraps warnings →
     setting ≡ program_setting false file source program entries → warned ≡ warned_of file source program warnings → runs ≡ [] →
-    RecordsEntries form outcome 0 extent setting entries memory runs warned text → RecordsRun form outcome extent file source program entries memory text
-run_recorded form outcome extent file source program entries memory warnings setting warned runs text are setting_is warned_is empty records = record {
+    RecordsEntries form outcome 0 extent setting entries memory runs warned text → RecordsRun form outcome extent file source program wraps entries memory text
+run_recorded form outcome extent file source program wraps entries memory warnings setting warned runs text are setting_is warned_is empty records = record {
   warnings = warnings;
   are_warnings = are;
   records = subst (λ (w : Warned). RecordsEntries form outcome 0 extent (program_setting false file source program entries) entries memory [] w text) warned_is

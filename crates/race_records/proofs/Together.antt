@@ -1,7 +1,8 @@
 -- What is told of several traces together.
-use Rattle.std.proofs.Common.{◌≡◌, ℕ, List, [], ◌∷◌, ◌++◌, length, min, take, map, refl, sym, ap, ap₂, ◌∙◌}
+use Rattle.std.proofs.Common.{◌≡◌, ℕ, suc, ◌+◌, ◌<◌, List, [], ◌∷◌, ◌++◌, length, min, take, drop, map, get_or, refl, sym, ap, ap₂, ◌∙◌, append_assoc, arith}
 use Rattle.std.specs.List.{AllZip}
-use Rattle.std.proofs.lemmas.List.{take-map}
+use Rattle.std.specs.Global.{Vec}
+use Rattle.std.proofs.lemmas.List.{take-map, drop_more}
 use Rattle.serde_json.specs.Data.{Data, null}
 use Rattle.serde_json.specs.View.{view}
 use Rattle.serde_json.specs.declared.value.Value.{Value}
@@ -13,7 +14,11 @@ use Rattle.race_records.specs.declared.race.Race.{Race}
 use Rattle.race_records.specs.RaceViews.{race_parts}
 use Rattle.race_records.specs.Warned.{Warned, none_warned}
 use Rattle.race_records.specs.Documents.{SummaryParts, document_told}
-use Rattle.race_records.specs.Several.{Recorded, races_told, summary_recorded, recorded_told}
+use Rattle.race_records.specs.Races.{RaceParts}
+use Rattle.race_records.specs.Several.{Recorded, found_group, found_groups, races_told, summary_recorded, recorded_told}
+
+abbrev pub items_of : Vec ℕ → List ℕ
+items_of group = group.items
 
 -- the copy of values
 pub copied : (values copy : List Value) → AllZip (λ v w. view w ≡ view v) values copy → map view copy ≡ map view values
@@ -29,21 +34,33 @@ first_races races front most is =
     ap (map race_parts) (is ∙ first_of_all races most) ∙ sym (take-map race_parts most races)
 
 -- the races that are told
-pub races_first : (most limit : ℕ) (findings some : List Finding) (races front : List Race) (begun told : List Data) →
-    most ≡ limit → some ≡ take (min (length findings) most) findings → front ≡ take (min (length races) most) races → begun ≡ [] →
-    told ≡ begun ++ races_told 1 some (map race_parts front) → told ≡ races_told 1 (take limit findings) (take limit (map race_parts races))
-races_first most limit findings some races front begun told limit_is some_is front_is empty is =
-    is ∙ ap (λ (before : List Data). before ++ races_told 1 some (map race_parts front)) empty ∙
-    ap₂ (races_told 1) (some_is ∙ first_of_all findings most) (first_races races front most front_is) ∙
-    ap (λ (m : ℕ). races_told 1 (take m findings) (take m (map race_parts races))) limit_is
+pub races_first : (most limit : ℕ) (findings some : List Finding) (races front : List Race) (told : List Data) →
+    most ≡ limit → some ≡ take (min (length findings) most) findings → front ≡ take (min (length races) most) races →
+    told ≡ races_told some (map race_parts front) → told ≡ races_told (take limit findings) (take limit (map race_parts races))
+races_first most limit findings some races front told limit_is some_is front_is is =
+    is ∙ ap₂ races_told (some_is ∙ first_of_all findings most) (first_races races front most front_is) ∙
+    ap (λ (m : ℕ). races_told (take m findings) (take m (map race_parts races))) limit_is
+
+-- Behind what is told of the groups before one, it and those behind it are told.
+pub found_more : (findings : List Finding) (races : List RaceParts) (groups : List (Vec ℕ)) (index : ℕ) (d : Vec ℕ) (told new whole : List Data) →
+    index < length groups → told ++ found_groups findings races (suc index) (map items_of (drop index groups)) ≡ whole →
+    new ≡ told ++ found_group findings races (suc index) (get_or groups index d).items →
+    new ++ found_groups findings races (suc (index + 1)) (map items_of (drop (index + 1) groups)) ≡ whole
+found_more findings races groups index d told new whole below before is =
+    let one = found_group findings races (suc index) (get_or groups index d).items in
+    let behind = found_groups findings races (suc (suc index)) (map items_of (drop (index + 1) groups)) in
+    let step : found_groups findings races (suc index) (map items_of (drop index groups)) ≡ one ++ behind =
+    ap (λ (some : List (Vec ℕ)). found_groups findings races (suc index) (map items_of some)) (drop_more groups index d below) in
+    ap (λ (n : ℕ). new ++ found_groups findings races (suc n) (map items_of (drop (index + 1) groups))) (omega arith) ∙ ap (λ (t : List Data). t ++ behind) is ∙
+    append_assoc told one behind ∙ ap (λ (t : List Data). told ++ t) (sym step) ∙ before
 
 -- all of it
 pub told_together : (extent : Extent) (recorded : Recorded) (runs : List (List ℕ)) (summary : SummaryParts) (memory value : Data) (races untold : List Data) (warned : Warned) →
-    summary ≡ summary_recorded recorded → memory ≡ null → races ≡ races_told 1 (take (most_pairs extent) recorded.kept.findings) (take (most_pairs extent) recorded.kept.races) →
+    summary ≡ summary_recorded recorded → memory ≡ null → races ≡ races_told (take (most_pairs extent) recorded.kept.findings) (take (most_pairs extent) recorded.kept.races) →
     untold ≡ recorded.untold → warned ≡ none_warned → value ≡ document_told summary memory races runs untold warned →
     value ≡ recorded_told extent recorded runs
 told_together extent recorded runs summary memory value races untold warned summary_is memory_is races_are untold_is none told =
-    let findings = races_told 1 (take (most_pairs extent) recorded.kept.findings) (take (most_pairs extent) recorded.kept.races) in
+    let findings = races_told (take (most_pairs extent) recorded.kept.findings) (take (most_pairs extent) recorded.kept.races) in
     told ∙ ap (document_told summary memory races runs untold) none ∙ ap (λ (s : SummaryParts). document_told s memory races runs untold none_warned) summary_is ∙
     ap (λ (m : Data). document_told (summary_recorded recorded) m races runs untold none_warned) memory_is ∙
     ap (λ (r : List Data). document_told (summary_recorded recorded) null r runs untold none_warned) races_are ∙

@@ -1,11 +1,11 @@
 -- Where two strands part, and what would order them.
-use Rattle.std.specs.Prelude.{ℕ, codes, Option, Some, None, unwrap_or}
+use Rattle.std.specs.Prelude.{ℕ, Bool, codes, Option, Some, None, unwrap_or}
 use Rattle.serde_json.specs.Data.{Data, null, object, member, no_members}
 use Rattle.race_pairs.specs.declared.lineage.Parting.{Parting}
 use Rattle.race_pairs.specs.declared.lineage.OpenSpawn.{OpenSpawn}
 use Rattle.race_pairs.specs.Refusals.{line_in}
 use Rattle.race_pairs.specs.declared.refusal.Reason.{Reason}
-use Rattle.race_pairs.specs.declared.refusal.Reason.TheVariants.{Race, ViewRead, Unset}
+use Rattle.race_pairs.specs.declared.refusal.Reason.TheVariants.{Race, ViewRead}
 use Rattle.race_pairs.specs.declared.race.Pair.{Pair}
 use Rattle.race_pairs.specs.declared.encounter.Encounter.{Encounter}
 use Rattle.race_explanations.specs.Settings.{Setting}
@@ -39,9 +39,9 @@ outstanding_told setting pair refused None = null
 abbrev pub onward_line : Setting → Encounter → ℕ
 onward_line setting encounter = line_in setting.lines (unwrap_or encounter.onward 0)
 
--- what would order the two, as it is told to a person
-abbrev pub help_told : Reason → Setting → Pair → Encounter → Data
-help_told reason setting pair encounter = text_or_null (help_of reason setting pair encounter)
+-- what orders the two, as it is told to a person
+abbrev pub help_told : Reason → Setting → Pair → Encounter → (is_sure : Bool) → Data
+help_told reason setting pair encounter is_sure = text_or_null (help_of reason setting pair encounter is_sure)
 
 -- the two strands of a race part at a spawn
 abbrev pub parting_of : Reason → Setting → Pair → Encounter → Data

@@ -78,10 +78,10 @@ pub record RecordsEntries (form : RecordForm) (outcome : Outcome) (traces : ℕ)
   pub is_text : IsTextOf (in_form form (document_told (summary_of outcome traces entries (length pairs)) memory
       (groups_told setting cases 1 groups) recorded [] warned)) text
 
--- The text tells so of the entries of a run of a program, and the warnings of the program.
+-- The text tells so of the entries of a run of a program, and the warnings of the program, where the run wraps these indexes.
 pub record RecordsRun (form : RecordForm) (outcome : Outcome) (extent : Extent) (file : List ℕ) (source : List (List ℕ)) (program : Contents)
-    (entries : List Entry) (memory : Data) (text : List ℕ) : Type 0 where
+    (wraps : ℕ → Option ℕ) (entries : List Entry) (memory : Data) (text : List ℕ) : Type 0 where
   pub warnings : List Warning
-  pub are_warnings : AreWarnings program warnings
+  pub are_warnings : AreWarnings program wraps warnings
   pub records : RecordsEntries form outcome 0 extent (program_setting false file source program entries) entries memory []
       (warned_of file source program warnings) text

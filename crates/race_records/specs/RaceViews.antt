@@ -7,7 +7,8 @@ abbrev pub race_parts : Race → RaceParts
 race_parts race = record {
   reason = race.reason;
   spawn = race.spawn;
-  help = view race.help;
+  sure_help = view race.sure_help;
+  open_help = view race.open_help;
   outstanding = view race.outstanding;
   parting = view race.parting;
   refused = view race.refused;

@@ -1,5 +1,5 @@
 -- What is told of a pair of places that raced.
-use Rattle.std.specs.Prelude.{ℕ, suc, List, [], ◌∷◌, ◌++◌, Option, Some, None, codes, drop, flat_map, slice_get}
+use Rattle.std.specs.Prelude.{ℕ, suc, Bool, true, false, List, [], ◌∷◌, ◌++◌, Option, Some, None, codes, drop, flat_map, slice_get, if◌then◌else◌}
 use Rattle.serde_json.specs.Data.{Data, null, string, object, member, no_members}
 use Rattle.model_accesses.specs.Table.{spelling}
 use Rattle.race_pairs.specs.declared.refusal.Reason.{Reason}
@@ -10,6 +10,7 @@ use Rattle.race_pairs.specs.declared.encounter.Encounter.{Encounter}
 use Rattle.race_explanations.specs.declared.case.Case.{Case}
 use Rattle.race_explanations.specs.Settings.{Setting}
 use Rattle.race_explanations.specs.Titles.{told_names}
+use Rattle.race_explanations.specs.Groups.{is_group_sure}
 use Rattle.race_records.specs.Values.{text_told, count_told, number_or_null, list_told}
 use Rattle.race_records.specs.Accesses.{access_told}
 use Rattle.race_records.specs.Advice.{help_told, parting_of, outstanding_of}
@@ -33,11 +34,12 @@ witness_told reason setting pair encounter = access_told setting pair.witness en
 abbrev pub name_told : List ℕ → Data
 name_told spaced = text_told (drop 1 spaced)
 
--- what is told of a pair but for the names of what it raced on, and how often
+-- what is told of a pair but for the names of what it raced on, and how often; what orders it where a sync is sure to, and where it is not
 pub record RaceParts : Type 0 where
   pub reason : Reason
   pub spawn : Option ℕ
-  pub help : Data
+  pub sure_help : Data
+  pub open_help : Data
   pub outstanding : Data
   pub parting : Data
   pub refused : Data
@@ -47,18 +49,20 @@ abbrev pub parts_of : Setting → Pair → Encounter → RaceParts
 parts_of setting pair encounter = record {
   reason = pair.lines.reason;
   spawn = pair.spawn;
-  help = help_told pair.lines.reason setting pair encounter;
+  sure_help = help_told pair.lines.reason setting pair encounter true;
+  open_help = help_told pair.lines.reason setting pair encounter false;
   outstanding = outstanding_of pair.lines.reason setting pair encounter;
   parting = parting_of pair.lines.reason setting pair encounter;
   refused = access_told setting pair.first (Some encounter.refused) encounter.chain.items;
   witness = witness_told pair.lines.reason setting pair encounter;
 }
 
--- what is told of a pair: the names of the cells or reducers on which it raced, each behind a space, how often, and the number of its group
-abbrev pub race_told : RaceParts → (names : List (List ℕ)) → (times group : ℕ) → Data
-race_told parts names times group =
+-- what is told of a pair: the names of the cells or reducers on which it raced, each behind a space, how often, the number of its group, and
+-- whether a sync orders all of it
+abbrev pub race_told : RaceParts → (names : List (List ℕ)) → (times group : ℕ) → (is_sure : Bool) → Data
+race_told parts names times group is_sure =
     object (member (codes "group") (count_told group)
-    (member (codes "help") parts.help
+    (member (codes "help") (if is_sure then parts.sure_help else parts.open_help)
     (member (codes "kind") (string (kind_word parts.reason))
     (member (codes "locations") (list_told name_told names)
     (member (codes "outstanding") parts.outstanding
@@ -69,27 +73,30 @@ race_told parts names times group =
     (member (codes "times") (count_told times)
     (member (codes "witness") parts.witness no_members)))))))))))
 
--- what is told of a race in the group with this number
-abbrev pub pair_told : Setting → (group : ℕ) → Pair → (places : List ℕ) → Encounter → Data
-pair_told setting group pair places encounter =
-    race_told (parts_of setting pair encounter) (told_names setting pair.lines.reason places) pair.times group
+-- what is told of a race in the group with this number, by whether a sync orders all of the group
+abbrev pub pair_told : Setting → (group : ℕ) → (is_sure : Bool) → Pair → (places : List ℕ) → Encounter → Data
+pair_told setting group is_sure pair places encounter =
+    race_told (parts_of setting pair encounter) (told_names setting pair.lines.reason places) pair.times group is_sure
 
-abbrev pub case_told : Setting → (group : ℕ) → Case → Data
-case_told setting group case = pair_told setting group case.race.now.pair case.race.now.places.items case.encounter
+abbrev pub case_told : Setting → (group : ℕ) → (is_sure : Bool) → Case → Data
+case_told setting group is_sure case = pair_told setting group is_sure case.race.now.pair case.race.now.places.items case.encounter
 
-abbrev pub told_of : Setting → (group : ℕ) → Option Case → List Data
-told_of setting group (Some case) = case_told setting group case ∷ []
-told_of setting group None = []
+abbrev pub told_of : Setting → (group : ℕ) → (is_sure : Bool) → Option Case → List Data
+told_of setting group is_sure (Some case) = case_told setting group is_sure case ∷ []
+told_of setting group is_sure None = []
 
 -- of the case at a place
-abbrev pub told_at : Setting → List Case → (group : ℕ) → ℕ → List Data
-told_at setting cases group place = told_of setting group (slice_get cases place)
+abbrev pub told_at : Setting → List Case → (group : ℕ) → (is_sure : Bool) → ℕ → List Data
+told_at setting cases group is_sure place = told_of setting group is_sure (slice_get cases place)
 
 -- of the races of a group
-abbrev pub group_told : Setting → List Case → (group : ℕ) → (places : List ℕ) → List Data
-group_told setting cases group places = flat_map (told_at setting cases group) places
+abbrev pub places_told : Setting → List Case → (group : ℕ) → (is_sure : Bool) → (places : List ℕ) → List Data
+places_told setting cases group is_sure places = flat_map (told_at setting cases group is_sure) places
+
+abbrev pub group_told : Setting → List Case → (group : ℕ) → Group → List Data
+group_told setting cases group one = places_told setting cases group (is_group_sure setting cases one) one.places.items
 
 -- of the races of groups with numbers from this one on
 abbrev pub groups_told : Setting → List Case → (group : ℕ) → List Group → List Data
 groups_told setting cases group [] = []
-groups_told setting cases group (one ∷ groups) = group_told setting cases group one.places.items ++ groups_told setting cases (suc group) groups
+groups_told setting cases group (one ∷ groups) = group_told setting cases group one ++ groups_told setting cases (suc group) groups

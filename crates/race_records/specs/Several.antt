@@ -1,5 +1,5 @@
 -- What is told of several traces together.
-use Rattle.std.specs.Prelude.{ℕ, ◌≡◌, ◌-◌, nat_lt, List, [], ◌∷◌, ◌++◌, codes, length, map, take, Option, Some, None, cond, if◌then◌else◌}
+use Rattle.std.specs.Prelude.{ℕ, ◌≡◌, ◌-◌, nat_lt, suc, Bool, List, [], ◌∷◌, ◌++◌, codes, flat_map, length, map, take, Option, Some, None, slice_get, cond, if◌then◌else◌}
 use Rattle.std.specs.Global.{Vec}
 use Rattle.serde_json.specs.Data.{Data, null, object, member, no_members}
 use Rattle.model_histories.specs.declared.answer.Entry.{Entry}
@@ -13,6 +13,7 @@ use Rattle.race_explanations.specs.declared.extent.Extent.{Extent}
 use Rattle.race_explanations.specs.Extents.{most_pairs}
 use Rattle.race_explanations.specs.Settings.{Setting}
 use Rattle.race_explanations.specs.Findings.{added_up, with_finding, IsFinding}
+use Rattle.race_explanations.specs.FoundGroups.{groups_of, are_sure}
 use Rattle.race_records.specs.declared.document.Outcome.{Outcome}
 use Rattle.race_records.specs.declared.document.Outcome.TheVariants.{Clean, Raced}
 use Rattle.race_records.specs.Values.{text_told, count_told}
@@ -44,12 +45,12 @@ pub record IsRace (setting : Setting) (entries : List Entry) (pair : Pair) (race
   pub is_encounter : IsEncounter entries pair encounter
   pub parts_are : race ≡ parts_of setting pair encounter
 
--- The findings and the races of these pairs were added, one pair after another.
-pub data AddsKept (setting : Setting) (entries : List Entry) (old : Kept) : List Pair → Kept → Type 0 where
-  none : AddsKept setting entries old [] old
-  more : {pairs : List Pair} {kept : Kept} (pair : Pair) (finding : Finding) (race : RaceParts) → AddsKept setting entries old pairs kept →
-      IsFinding setting entries pair finding → IsRace setting entries pair race →
-      AddsKept setting entries old (pairs ++ pair ∷ []) (with_kept kept finding race)
+-- The findings and the races of these pairs of the trace with this number were added, one pair after another.
+pub data AddsKept (setting : Setting) (trace : ℕ) (entries : List Entry) (old : Kept) : List Pair → Kept → Type 0 where
+  none : AddsKept setting trace entries old [] old
+  more : {pairs : List Pair} {kept : Kept} (pair : Pair) (finding : Finding) (race : RaceParts) → AddsKept setting trace entries old pairs kept →
+      IsFinding setting trace entries pair finding → IsRace setting entries pair race →
+      AddsKept setting trace entries old (pairs ++ pair ∷ []) (with_kept kept finding race)
 
 -- What is kept of several traces: also the files of which not all pairs are kept, and how many refusals, requests and traces there were.
 pub record Recorded : Type 0 where
@@ -75,14 +76,14 @@ pub record AddsPairs (setting : Setting) (entries : List Entry) (most : ℕ) (ol
   pub pairs : List Pair
   pub are_pairs : ArePairs entries pairs
   pub count_is : count ≡ length pairs
-  pub kept : AddsKept setting entries old.kept (take most pairs) new.kept
+  pub kept : AddsKept setting old.traces entries old.kept (take most pairs) new.kept
   pub rest : new ≡ record old { kept = new.kept }
 
 -- A trace was added: its first pairs.
 pub record AddsTrace (extent : Extent) (file : List ℕ) (setting : Setting) (entries : List Entry) (old new : Recorded) : Type 0 where
   pub pairs : List Pair
   pub are_pairs : ArePairs entries pairs
-  pub kept : AddsKept setting entries old.kept (take (most_pairs extent) pairs) new.kept
+  pub kept : AddsKept setting old.traces entries old.kept (take (most_pairs extent) pairs) new.kept
   pub untold_is : new.untold ≡ old.untold ++ untold_in file (most_pairs extent) (length pairs)
   pub refusals_are : new.refusals ≡ added_up old.refusals (refusals_among entries)
   pub requests_are : new.requests ≡ added_up old.requests (length entries)
@@ -93,11 +94,31 @@ pub record AddsTrace (extent : Extent) (file : List ℕ) (setting : Setting) (en
 abbrev pub names_of : Finding → List (List ℕ)
 names_of finding = map (λ (name : Vec ℕ). name.items) finding.names.keys
 
--- the races, each with the names and the count of its finding, as groups with numbers from this one on
-abbrev pub races_told : (group : ℕ) → List Finding → List RaceParts → List Data
-races_told group (finding ∷ findings) (race ∷ races) =
-    race_told race (names_of finding) finding.times group ∷ races_told (added_up group 1) findings races
-races_told group findings races = []
+-- a race with the names and the count of its finding
+abbrev pub found_told : (group : ℕ) → (is_sure : Bool) → Option Finding → Option RaceParts → List Data
+found_told group is_sure (Some finding) (Some race) = race_told race (names_of finding) finding.times group is_sure ∷ []
+found_told group is_sure (Some finding) None = []
+found_told group is_sure None race = []
+
+-- of the finding at a place, in the group with this number
+abbrev pub found_at : List Finding → List RaceParts → (group : ℕ) → (is_sure : Bool) → ℕ → List Data
+found_at findings races group is_sure place = found_told group is_sure (slice_get findings place) (slice_get races place)
+
+abbrev pub found_places : List Finding → List RaceParts → (group : ℕ) → (is_sure : Bool) → (places : List ℕ) → List Data
+found_places findings races group is_sure places = flat_map (found_at findings races group is_sure) places
+
+-- of a group
+abbrev pub found_group : List Finding → List RaceParts → (group : ℕ) → (places : List ℕ) → List Data
+found_group findings races group places = found_places findings races group (are_sure findings places) places
+
+-- of groups with numbers from this one on
+abbrev pub found_groups : List Finding → List RaceParts → (group : ℕ) → List (List ℕ) → List Data
+found_groups findings races group [] = []
+found_groups findings races group (places ∷ groups) = found_group findings races group places ++ found_groups findings races (suc group) groups
+
+-- of all findings, in groups of those that part at one spawn
+abbrev pub races_told : List Finding → List RaceParts → List Data
+races_told findings races = found_groups findings races 1 (groups_of findings)
 
 -- how many findings there are, where all are kept
 abbrev pub all_of : List Data → ℕ → Option ℕ
@@ -121,5 +142,5 @@ summary_recorded recorded = record {
 abbrev pub recorded_told : Extent → Recorded → (runs : List (List ℕ)) → Data
 recorded_told extent recorded runs =
     document_told (summary_recorded recorded) null
-    (races_told 1 (take (most_pairs extent) recorded.kept.findings) (take (most_pairs extent) recorded.kept.races)) runs recorded.untold
+    (races_told (take (most_pairs extent) recorded.kept.findings) (take (most_pairs extent) recorded.kept.races)) runs recorded.untold
     none_warned

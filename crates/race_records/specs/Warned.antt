@@ -3,7 +3,7 @@ use Rattle.std.specs.Prelude.{ℕ, List, [], codes, length, take}
 use Rattle.serde_json.specs.Data.{Data, string, object, member, no_members}
 use Rattle.program_text.specs.Drafts.{Contents}
 use Rattle.program_warnings.specs.declared.warning.Warning.{Warning}
-use Rattle.program_warnings.specs.declared.warning.Warning.TheVariants.{Register, Unreached, Unput, Wrapped}
+use Rattle.program_warnings.specs.declared.warning.Warning.TheVariants.{Register, Unreached, Unput, Wrapped, WrappedInRun}
 use Rattle.program_warnings.specs.Messages.{title, line_of_warning}
 use Rattle.race_records.specs.Values.{text_told, list_told}
 use Rattle.race_records.specs.Sites.{line_of_file, parts_told}
@@ -13,6 +13,7 @@ rule_word (Register line function register declared) = codes "declared-register"
 rule_word (Unreached line function) = codes "unreached-function"
 rule_word (Unput line reducer) = codes "unput-reducer"
 rule_word (Wrapped line index length) = codes "wrapped-index"
+rule_word (WrappedInRun line function index length) = codes "wrapped-index"
 
 -- a warning of a program, which a file with these lines holds
 abbrev pub warning_told : (file : List ℕ) → (source : List (List ℕ)) → Contents → Warning → Data

@@ -61,16 +61,17 @@ fn onward_line(scene: &Scene<'_, '_>, encounter: &Encounter) -> u32
     line_of(scene, encounter.onward.unwrap_or(0))
 }
 
-/// What would order the two.
+/// What orders the two.
 pub(crate) fn help_value(
     alloc: Global,
     scene: &Scene<'_, '_>,
     pair: &Pair,
     encounter: &Encounter,
+    is_sure: bool,
 ) -> Result<Value, AllocError>
-    ensures { IfOk result (λ value. view value ≡ help_told pair.now.lines.reason (setting_of scene.now) pair.now encounter.now) }
+    ensures { IfOk result (λ value. view value ≡ help_told pair.now.lines.reason (setting_of scene.now) pair.now encounter.now is_sure) }
 {
-    match help_of(alloc, scene, pair, encounter)? {
+    match help_of(alloc, scene, pair, encounter, is_sure)? {
         Some(help) => text_value(alloc, help.as_slice()),
         None => Ok(Value::Null),
     }

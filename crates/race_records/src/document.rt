@@ -1,6 +1,8 @@
 //! What is told of a run or of a trace.
 
 ghost use Rattle.std.specs.Prelude.{◌≡◌, ◌++◌, ◌∷◌, [], false, List, IfOk, OnOk, map, string_bytes};
+ghost use Rattle.std.specs.Ordering.{nat_cmp};
+ghost use Rattle.std.specs.BTreeMap.{get};
 ghost use Rattle.text_words.specs.Text.{lines};
 ghost use Rattle.model_histories.specs.declared.answer.Entry.{Entry};
 ghost use Rattle.race_pairs.specs.Known.{known_count};
@@ -13,7 +15,7 @@ ghost use Rattle.serde_json.specs.View.{view};
 ghost use Rattle.race_explanations.specs.Scenes.{setting_of};
 ghost use Rattle.race_explanations.specs.Explained.{trace_setting};
 ghost use Rattle.race_explanations.specs.Extents.{most_pairs};
-ghost use Rattle.race_records.specs.Races.{case_told, told_at, group_told, groups_told};
+ghost use Rattle.race_records.specs.Races.{case_told, told_at, places_told, group_told, groups_told};
 ghost use Rattle.race_records.specs.Documents.{document_told, summary_of, RecordsEntries, RecordsRun, outcome_word};
 ghost use Rattle.race_records.specs.Warned.{none_warned};
 ghost use Rattle.race_records.specs.WarnedViews.{warned_parts};
@@ -24,7 +26,8 @@ use crate::race::case_value;
 use crate::value::{size_or_null, texts_value};
 use crate::warning::{Warned, none_warned, warned_in};
 use program_text::Program;
-use race_explanations::{Case, Extent, Scene, cases_of, program_scene, trace_scene};
+use program_warnings::Wraps;
+use race_explanations::{Case, Extent, Scene, cases_of, is_group_sure, program_scene, trace_scene};
 use race_pairs::{Digest, Group, group_races};
 use serde_json::{Value, json};
 use source_quotes::Source;
@@ -101,11 +104,12 @@ fn add_value(
     scene: &Scene<'_, '_>,
     case: &Case<'_>,
     group: usize,
+    is_sure: bool,
     values: &mut Vec<Value>,
 ) -> Result<(), AllocError>
-    ensures { OnOk result (map view values.new.items ≡ map view values.old.items ++ case_told (setting_of scene.now) group case.now ∷ []) }
+    ensures { OnOk result (map view values.new.items ≡ map view values.old.items ++ case_told (setting_of scene.now) group is_sure case.now ∷ []) }
 {
-    let value = case_value(alloc, scene, case, group)?;
+    let value = case_value(alloc, scene, case, group, is_sure)?;
     Ok(values.push(value)?)
 }
 
@@ -115,32 +119,50 @@ fn add_case(
     scene: &Scene<'_, '_>,
     cases: &[Case<'_>],
     group: usize,
+    is_sure: bool,
     place: usize,
     values: &mut Vec<Value>,
 ) -> Result<(), AllocError>
-    ensures { OnOk result (map view values.new.items ≡ map view values.old.items ++ told_at (setting_of scene.now) cases.now group place) }
+    ensures { OnOk result (map view values.new.items ≡ map view values.old.items ++ told_at (setting_of scene.now) cases.now group is_sure place) }
 {
     match cases.get(place) {
-        Some(case) => add_value(alloc, scene, case, group, values),
+        Some(case) => add_value(alloc, scene, case, group, is_sure, values),
         None => Ok(()),
     }
 }
 
-/// Adds what is told of the races of the group with this number.
-fn add_group(
+/// Adds what is told of races of the group with this number, by whether a sync orders all of the group.
+fn add_places(
     alloc: Global,
     scene: &Scene<'_, '_>,
     cases: &[Case<'_>],
     group: usize,
+    is_sure: bool,
     places: &[usize],
     values: &mut Vec<Value>,
 ) -> Result<(), AllocError>
-    ensures { OnOk result (map view values.new.items ≡ map view values.old.items ++ group_told (setting_of scene.now) cases.now group places.now) }
+    ensures { OnOk result (map view values.new.items ≡ map view values.old.items ++ places_told (setting_of scene.now) cases.now group is_sure places.now) }
 {
     for place in places {
-        add_case(alloc, scene, cases, group, *place, values)?;
+        add_case(alloc, scene, cases, group, is_sure, *place, values)?;
     }
     Ok(())
+}
+
+/// Adds what is told of the races of a group, which has this number.
+fn add_group(
+    alloc: Global,
+    scene: &Scene<'_, '_>,
+    cases: &[Case<'_>],
+    number: usize,
+    group: &Group,
+    values: &mut Vec<Value>,
+) -> Result<(), AllocError>
+    ensures { OnOk result (map view values.new.items ≡ map view values.old.items ++ group_told (setting_of scene.now) cases.now number group.now) }
+{
+    let is_sure = is_group_sure(alloc, scene, cases, group)?;
+    let places = group.places.as_slice();
+    add_places(alloc, scene, cases, number, is_sure, places, values)
 }
 
 /// What is told of the races of groups, which are numbered from 1 on.
@@ -154,8 +176,7 @@ fn group_values(
 {
     let mut values = Vec::new(alloc);
     for (before, group) in groups.iter().enumerate() {
-        let places = group.places.as_slice();
-        add_group(alloc, scene, cases, before + 1, places, &mut values)?;
+        add_group(alloc, scene, cases, before + 1, group, &mut values)?;
     }
     Ok(values)
 }
@@ -202,7 +223,7 @@ fn entries_record(
 
 /// Tells in a form of the entries of a run of a program, of which this is the digest, which keeps as many pairs as the extent wants: all that
 /// [`explanation`](race_explanations::explanation) tells, and of each pair that the digest keeps, with the number of its group; with the final
-/// memory where it is known, and the warnings of the program. Errors where there is no memory.
+/// memory where it is known, and the warnings of the program, where the run wraps these indexes. Errors where there is no memory.
 pub fn run_record<'s>(
     alloc: Global,
     form: RecordForm,
@@ -212,16 +233,17 @@ pub fn run_record<'s>(
     file: &'s str,
     text: &[u8],
     program: &'s Program<Global>,
+    wraps: &Wraps,
     digest: &'s Digest,
 ) -> Result<Vec<u8>, AllocError>
     requires digest { (entries : List Entry) × IsDigest entries digest.now }
     requires most { most_of digest.now ≡ most_pairs extent }
     ensures { IfOk result (λ told. (entries : List Entry) → IsDigest entries digest.now →
-        RecordsRun form outcome extent file.now (lines text.now) (contents program.now) entries (view memory) told.items) }
+        RecordsRun form outcome extent file.now (lines text.now) (contents program.now) (get nat_cmp wraps.now) entries (view memory) told.items) }
 {
     let source = Source::new(alloc, text)?;
     let scene = program_scene(false, file, &source, program, digest);
-    let warned = warned_in(alloc, file, &source, program)?;
+    let warned = warned_in(alloc, file, &source, program, wraps)?;
     entries_record(
         alloc,
         form,

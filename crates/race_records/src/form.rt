@@ -23,14 +23,14 @@ pub enum RecordForm {
 pub(crate) fn record_text(
     alloc: Global,
     form: RecordForm,
-    record: &Value,
+    document: &Value,
 ) -> Result<Vec<u8>, AllocError>
-    ensures { IfOk result (λ text. IsTextOf (in_form form (view record.now)) text.items) }
+    ensures { IfOk result (λ text. IsTextOf (in_form form (view document.now)) text.items) }
 {
     match form {
-        RecordForm::Json => value_text(alloc, record),
+        RecordForm::Json => value_text(alloc, document),
         RecordForm::Sarif => {
-            let log = log_value(alloc, record)?;
+            let log = log_value(alloc, document)?;
             value_text(alloc, &log)
         }
     }

@@ -1,6 +1,6 @@
 //! What is told of a pair of places that raced.
 
-ghost use Rattle.std.specs.Prelude.{◌≡◌, ℕ, List, IfOk, map, string_bytes};
+ghost use Rattle.std.specs.Prelude.{◌≡◌, ℕ, List, IfOk, map, string_bytes, if◌then◌else◌};
 ghost use Rattle.std.specs.Global.{Vec};
 ghost use Rattle.serde_json.specs.View.{view};
 ghost use Rattle.race_explanations.specs.Scenes.{setting_of};
@@ -23,7 +23,10 @@ pub(crate) struct Race {
     pub(crate) reason: Reason,
     /// The line of the spawn at which the two strands part.
     pub(crate) spawn: Option<u32>,
-    pub(crate) help: Value,
+    /// What orders the two, where a sync is sure to.
+    pub(crate) sure_help: Value,
+    /// The same, where it is not.
+    pub(crate) open_help: Value,
     pub(crate) outstanding: Value,
     pub(crate) parting: Value,
     pub(crate) refused: Value,
@@ -36,7 +39,8 @@ impl Drop for Race {
         let Race {
             reason: _,
             spawn: _,
-            help: _,
+            sure_help: _,
+            open_help: _,
             outstanding: _,
             parting: _,
             refused: _,
@@ -102,7 +106,8 @@ pub(crate) fn race_of(
 ) -> Result<Race, AllocError>
     ensures { IfOk result (λ race. race_parts race ≡ parts_of (setting_of scene.now) pair.now encounter.now) }
 {
-    let help = help_value(alloc, scene, pair, encounter)?;
+    let sure_help = help_value(alloc, scene, pair, encounter, true)?;
+    let open_help = help_value(alloc, scene, pair, encounter, false)?;
     let outstanding = outstanding_of(alloc, scene, pair, encounter)?;
     let parting = parting_of(alloc, scene, pair, encounter)?;
     let refused = access_value(
@@ -116,7 +121,8 @@ pub(crate) fn race_of(
     Ok(Race {
         reason: pair.lines.reason,
         spawn: pair.spawn,
-        help,
+        sure_help,
+        open_help,
         outstanding,
         parting,
         refused,
@@ -143,21 +149,34 @@ fn names_value(alloc: Global, names: &BTreeSet<Vec<u8>>) -> Result<Value, AllocE
     Ok(Value::from(values))
 }
 
-/// All that is told of a pair, with the names of what it raced on, how often, and the number of its group.
+/// What orders the two, by whether a sync is sure to.
+fn help_of(race: &Race, is_sure: bool) -> &Value
+    ensures { view result.now ≡ (if is_sure then (race_parts race.now).sure_help else (race_parts race.now).open_help) }
+{
+    if is_sure {
+        &race.sure_help
+    } else {
+        &race.open_help
+    }
+}
+
+/// All that is told of a pair, with the names of what it raced on, how often, the number of its group, and whether a sync orders all of it.
 pub(crate) fn race_value(
     alloc: Global,
     race: &Race,
     names: &BTreeSet<Vec<u8>>,
     times: usize,
     group: usize,
+    is_sure: bool,
 ) -> Result<Value, AllocError>
-    ensures { IfOk result (λ value. view value ≡ race_told (race_parts race.now) (map (λ (name : Vec ℕ). name.items) names.now.keys) times group) }
+    ensures { IfOk result (λ value. view value ≡ race_told (race_parts race.now) (map (λ (name : Vec ℕ). name.items) names.now.keys) times group is_sure) }
 {
     let locations = names_value(alloc, names)?;
     let kind = kind_word(alloc, race.reason)?;
+    let help = help_of(race, is_sure);
     json!(in alloc; {
         "group": group,
-        "help": &race.help,
+        "help": help,
         "kind": kind,
         "locations": locations,
         "outstanding": &race.outstanding,
@@ -170,17 +189,18 @@ pub(crate) fn race_value(
     })
 }
 
-/// What is told of a race in the group with this number.
+/// What is told of a race in the group with this number, by whether a sync orders all of the group.
 pub(crate) fn case_value(
     alloc: Global,
     scene: &Scene<'_, '_>,
     case: &Case<'_>,
     group: usize,
+    is_sure: bool,
 ) -> Result<Value, AllocError>
-    ensures { IfOk result (λ value. view value ≡ case_told (setting_of scene.now) group case.now) }
+    ensures { IfOk result (λ value. view value ≡ case_told (setting_of scene.now) group is_sure case.now) }
 {
     let pair = &case.race.pair;
     let names = display_names(alloc, scene, pair.lines.reason, case.race.places.as_slice())?;
     let told = race_of(alloc, scene, pair, &case.encounter)?;
-    race_value(alloc, &told, &names, pair.times, group)
+    race_value(alloc, &told, &names, pair.times, group, is_sure)
 }

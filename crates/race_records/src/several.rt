@@ -1,6 +1,6 @@
 //! What is found in several traces, told together.
 
-ghost use Rattle.std.specs.Prelude.{◌≡◌, ◌==◌, ◌++◌, false, List, IfOk, OnOk, length, map, string_bytes};
+ghost use Rattle.std.specs.Prelude.{◌≡◌, ◌==◌, ◌++◌, false, List, Some, IfOk, OnOk, length, map, slice_get, string_bytes};
 ghost use Rattle.model_histories.specs.declared.answer.Entry.{Entry};
 ghost use Rattle.race_pairs.specs.Digests.{IsDigest, most_of};
 ghost use Rattle.race_pairs.specs.Encounters.{IsRaceOf, AreRacesOf};
@@ -14,7 +14,8 @@ ghost use Rattle.race_records.specs.Values.{IsTextOf};
 ghost use Rattle.race_records.specs.Forms.{in_form};
 ghost use Rattle.race_records.specs.RaceViews.{race_parts};
 ghost use Rattle.race_records.specs.SummaryViews.{summary_parts};
-ghost use Rattle.race_records.specs.Several.{with_race, IsRace, AddsKept, nothing_recorded, untold_told, untold_in, AddsPairs, AddsTrace, races_told, all_of, outcome_of, summary_recorded, recorded_told};
+ghost use Rattle.race_records.specs.Several.{with_race, IsRace, AddsKept, nothing_recorded, untold_told, untold_in, AddsPairs, AddsTrace};
+ghost use Rattle.race_records.specs.Several.{found_told, found_at, found_places, found_group, found_groups, races_told, all_of, outcome_of, summary_recorded, recorded_told};
 ghost use Rattle.race_records.specs.SeveralViews.{kept_of, recorded_of};
 
 use crate::document::{Outcome, Summary, document_value};
@@ -23,7 +24,8 @@ use crate::race::{Race, race_of, race_value};
 use crate::value::text_value;
 use crate::warning::none_warned;
 use race_explanations::{
-    Extent, Finding, Scene, finding_of, join_finding, most_pairs, trace_scene,
+    Extent, Finding, Scene, are_sure, finding_of, group_findings, join_finding, most_pairs,
+    trace_scene,
 };
 use race_pairs::{Digest, Encounter};
 use serde_json::{Value, json};
@@ -92,10 +94,11 @@ fn pair_race(
     race_of(alloc, scene, &race.pair, &encounter)
 }
 
-/// Adds pairs.
+/// Adds pairs of the trace with this number.
 fn keep_all(
     alloc: Global,
     scene: &Scene<'_, '_>,
+    trace: usize,
     found: &[race_pairs::Race],
     findings: &mut Vec<Finding>,
     races: &mut Vec<Race>,
@@ -103,11 +106,11 @@ fn keep_all(
     requires found { (entries : List Entry) × AreRacesOf entries scene.now.digest.now found.now }
     requires trace { IsOfTrace (setting_of scene.now).origin }
     ensures { OnOk result ((entries : List Entry) → AreRacesOf entries scene.now.digest.now found.now →
-        AddsKept (setting_of scene.now) entries (kept_of findings.old.items races.old.items) (map (λ race. race.pair) found.now)
+        AddsKept (setting_of scene.now) trace entries (kept_of findings.old.items races.old.items) (map (λ race. race.pair) found.now)
         (kept_of findings.new.items races.new.items)) }
 {
     for race in found {
-        let finding = finding_of(alloc, scene, race)?;
+        let finding = finding_of(alloc, scene, trace, race)?;
         let told = pair_race(alloc, scene, race)?;
         keep(findings, races, finding, told)?;
     }
@@ -132,24 +135,119 @@ fn push_untold(
     Ok(untold.push(value)?)
 }
 
-/// Adds races, each with the names and the count of its finding, as groups with numbers from this one on.
-fn push_races(
+/// Adds what is told of a finding in the group with this number, by whether a sync orders all of the group.
+fn add_race(
     alloc: Global,
+    finding: &Finding,
+    race: &Race,
+    group: usize,
+    is_sure: bool,
     values: &mut Vec<Value>,
+) -> Result<(), AllocError>
+    ensures { OnOk result (map view values.new.items ≡ map view values.old.items ++ found_told group is_sure (Some finding.now) (Some (race_parts race.now))) }
+{
+    let names = &finding.names;
+    let value = race_value(alloc, race, names, finding.times, group, is_sure)?;
+    Ok(values.push(value)?)
+}
+
+/// The same of a finding whose race is at a place.
+fn add_race_at(
+    alloc: Global,
+    finding: &Finding,
+    races: &[Race],
+    group: usize,
+    is_sure: bool,
+    place: usize,
+    values: &mut Vec<Value>,
+) -> Result<(), AllocError>
+    ensures { OnOk result (map view values.new.items ≡ map view values.old.items ++
+        found_told group is_sure (Some finding.now) (slice_get (map race_parts races.now) place)) }
+{
+    match races.get(place) {
+        Some(race) => add_race(alloc, finding, race, group, is_sure, values),
+        None => Ok(()),
+    }
+}
+
+/// The same of the finding at a place.
+fn add_found(
+    alloc: Global,
     findings: &[Finding],
     races: &[Race],
     group: usize,
+    is_sure: bool,
+    place: usize,
+    values: &mut Vec<Value>,
 ) -> Result<(), AllocError>
-    ensures { OnOk result (map view values.new.items ≡ map view values.old.items ++ races_told group findings.now (map race_parts races.now)) }
+    ensures { OnOk result (map view values.new.items ≡ map view values.old.items ++ found_at findings.now (map race_parts races.now) group is_sure place) }
 {
-    let [finding, findings @ ..] = findings else {
-        return Ok(());
-    };
-    let [race, races @ ..] = races else {
-        return Ok(());
-    };
-    values.push(race_value(alloc, race, &finding.names, finding.times, group)?)?;
-    push_races(alloc, values, findings, races, group.saturating_add(1))
+    match findings.get(place) {
+        Some(finding) => add_race_at(alloc, finding, races, group, is_sure, place, values),
+        None => Ok(()),
+    }
+}
+
+/// Adds what is told of findings of the group with this number, by whether a sync orders all of the group.
+fn add_places(
+    alloc: Global,
+    findings: &[Finding],
+    races: &[Race],
+    group: usize,
+    is_sure: bool,
+    places: &[usize],
+    values: &mut Vec<Value>,
+) -> Result<(), AllocError>
+    ensures { OnOk result (map view values.new.items ≡ map view values.old.items ++ found_places findings.now (map race_parts races.now) group is_sure places.now) }
+{
+    for place in places {
+        add_found(alloc, findings, races, group, is_sure, *place, values)?;
+    }
+    Ok(())
+}
+
+/// Adds what is told of the group with this number.
+fn add_group(
+    alloc: Global,
+    findings: &[Finding],
+    races: &[Race],
+    group: usize,
+    places: &[usize],
+    values: &mut Vec<Value>,
+) -> Result<(), AllocError>
+    ensures { OnOk result (map view values.new.items ≡ map view values.old.items ++ found_group findings.now (map race_parts races.now) group places.now) }
+{
+    let is_sure = are_sure(findings, places);
+    add_places(alloc, findings, races, group, is_sure, places, values)
+}
+
+/// What is told of groups, which are numbered from 1 on.
+fn group_values(
+    alloc: Global,
+    findings: &[Finding],
+    races: &[Race],
+    groups: &[Vec<usize>],
+) -> Result<Vec<Value>, AllocError>
+    ensures { IfOk result (λ values. map view values.items ≡ found_groups findings.now (map race_parts races.now) 1 (map (λ group. group.items) groups.now)) }
+{
+    let mut values = Vec::new(alloc);
+    for (before, group) in groups.iter().enumerate() {
+        let places = group.as_slice();
+        add_group(alloc, findings, races, before + 1, places, &mut values)?;
+    }
+    Ok(values)
+}
+
+/// What is told of findings, in groups of those that part at one spawn.
+fn races_value(
+    alloc: Global,
+    findings: &[Finding],
+    races: &[Race],
+) -> Result<Vec<Value>, AllocError>
+    ensures { IfOk result (λ values. map view values.items ≡ races_told findings.now (map race_parts races.now)) }
+{
+    let groups = group_findings(alloc, findings)?;
+    group_values(alloc, findings, races, groups.as_slice())
 }
 
 /// How several traces came out.
@@ -205,6 +303,7 @@ impl Records {
         keep_all(
             alloc,
             scene,
+            self.traces,
             scene.digest.races(),
             &mut self.findings,
             &mut self.races,
@@ -267,8 +366,7 @@ impl Records {
             .as_slice()
             .split_at(self.findings.len().min(most));
         let (first, _) = self.races.as_slice().split_at(self.races.len().min(most));
-        let mut races = Vec::new(alloc);
-        push_races(alloc, &mut races, findings, first, 1)?;
+        let races = races_value(alloc, findings, first)?;
         let untold = copy_of(alloc, self.untold.as_slice())?;
         document_value(
             alloc,

@@ -1,19 +1,20 @@
 //! What is told of the warnings of a program.
 
 ghost use Rattle.std.specs.Prelude.{◌≡◌, List, [], IfOk, map, take};
+ghost use Rattle.std.specs.Ordering.{nat_cmp};
+ghost use Rattle.std.specs.BTreeMap.{get};
 ghost use Rattle.program_text.specs.Programs.{contents};
 ghost use Rattle.program_warnings.specs.declared.warning.Warning.{Warning};
 ghost use Rattle.program_warnings.specs.Messages.{AreWarnings};
 ghost use Rattle.serde_json.specs.View.{view};
 ghost use Rattle.race_records.specs.Values.{list_told};
 ghost use Rattle.race_records.specs.Warned.{rule_word, warning_told, none_warned, warned_of};
-ghost use Rattle.race_records.specs.Values.{list_told};
 ghost use Rattle.race_records.specs.WarnedViews.{warned_parts};
 
 use crate::site::file_line_value;
 use crate::value::text_value;
 use program_text::Program;
-use program_warnings::{Warning, find_warnings, line_of_warning, title_of_warning};
+use program_warnings::{Warning, Wraps, find_warnings, line_of_warning, title_of_warning};
 use serde_json::{Value, json};
 use source_quotes::Source;
 use std::alloc::{AllocError, Global};
@@ -46,7 +47,7 @@ fn rule_word(warning: Warning) -> &'static str
         Warning::Register { .. } => "declared-register",
         Warning::Unreached { .. } => "unreached-function",
         Warning::Unput { .. } => "unput-reducer",
-        Warning::Wrapped { .. } => "wrapped-index",
+        Warning::Wrapped { .. } | Warning::WrappedInRun { .. } => "wrapped-index",
     }
 }
 
@@ -113,16 +114,17 @@ fn warned_by(
     })
 }
 
-/// What is told of the warnings of a program.
+/// What is told of the warnings of a program, where a run of it wraps these indexes.
 pub(crate) fn warned_in(
     alloc: Global,
     file: &str,
     source: &Source<'_, Global>,
     program: &Program<Global>,
+    wraps: &Wraps,
 ) -> Result<Warned, AllocError>
-    ensures { IfOk result (λ warned. (warnings : List Warning) × AreWarnings (contents program.now) warnings × (warned_parts warned ≡
+    ensures { IfOk result (λ warned. (warnings : List Warning) × AreWarnings (contents program.now) (get nat_cmp wraps.now) warnings × (warned_parts warned ≡
         warned_of file.now source.now (contents program.now) warnings)) }
 {
-    let found = find_warnings(alloc, program)?;
+    let found = find_warnings(alloc, program, wraps)?;
     warned_by(alloc, file, source, program, found.as_slice())
 }

@@ -62,33 +62,33 @@ fn push_all(results: &mut Vec<Value>, more: Vec<Value>) -> Result<(), AllocError
 }
 
 /// Adds the result of an illegal request, where the record tells one.
-fn push_illegal(alloc: Global, results: &mut Vec<Value>, record: &Value) -> Result<(), AllocError>
-    ensures { OnOk result (map view results.new.items ≡ map view results.old.items ++ illegal_results (view record.now)) }
+fn push_illegal(alloc: Global, results: &mut Vec<Value>, document: &Value) -> Result<(), AllocError>
+    ensures { OnOk result (map view results.new.items ≡ map view results.old.items ++ illegal_results (view document.now)) }
 {
-    if is_at(record, "outcome", "illegal") {
-        results.push(illegal_result(alloc, record)?)?;
+    if is_at(document, "outcome", "illegal") {
+        results.push(illegal_result(alloc, document)?)?;
     }
     Ok(())
 }
 
 /// The results of a record.
-fn result_values(alloc: Global, record: &Value) -> Result<Vec<Value>, AllocError>
-    ensures { IfOk result (λ results. map view results.items ≡ results_of (view record.now)) }
+fn result_values(alloc: Global, document: &Value) -> Result<Vec<Value>, AllocError>
+    ensures { IfOk result (λ results. map view results.items ≡ results_of (view document.now)) }
 {
-    let mut results = warning_results(alloc, items_at(record, "warnings"))?;
-    let races = race_results(alloc, items_at(record, "races"))?;
+    let mut results = warning_results(alloc, items_at(document, "warnings"))?;
+    let races = race_results(alloc, items_at(document, "races"))?;
     push_all(&mut results, races)?;
-    let faults = fault_results(alloc, items_at(record, "faults"))?;
+    let faults = fault_results(alloc, items_at(document, "faults"))?;
     push_all(&mut results, faults)?;
-    push_illegal(alloc, &mut results, record)?;
+    push_illegal(alloc, &mut results, document)?;
     Ok(results)
 }
 
 /// Whether a run came to its end, or each request of a trace was judged.
-fn is_whole(record: &Value) -> bool
-    ensures { result ≡ is_whole (view record.now) }
+fn is_whole(document: &Value) -> bool
+    ensures { result ≡ is_whole (view document.now) }
 {
-    is_at(record, "outcome", "clean") || is_at(record, "outcome", "raced")
+    is_at(document, "outcome", "clean") || is_at(document, "outcome", "raced")
 }
 
 /// What is said of a run that the limit ended.
@@ -102,24 +102,24 @@ fn cut_words(alloc: Global, requests: u64) -> Result<String, AllocError>
 }
 
 /// What is noted of the run itself: that the limit ended it.
-fn notes_value(alloc: Global, record: &Value) -> Result<Value, AllocError>
-    ensures { IfOk result (λ value. view value ≡ notes_of (view record.now)) }
+fn notes_value(alloc: Global, document: &Value) -> Result<Value, AllocError>
+    ensures { IfOk result (λ value. view value ≡ notes_of (view document.now)) }
 {
-    if !is_at(record, "outcome", "unfinished") {
+    if !is_at(document, "outcome", "unfinished") {
         return json!(in alloc; []);
     }
-    let words = cut_words(alloc, count_at(record, "requests"))?;
+    let words = cut_words(alloc, count_at(document, "requests"))?;
     let message = text_value(alloc, words.as_str())?;
     json!(in alloc; [{"level": "warning", "message": message}])
 }
 
 /// How the run came out.
-fn invocation_value(alloc: Global, record: &Value) -> Result<Value, AllocError>
-    ensures { IfOk result (λ value. view value ≡ invocation_told (view record.now)) }
+fn invocation_value(alloc: Global, document: &Value) -> Result<Value, AllocError>
+    ensures { IfOk result (λ value. view value ≡ invocation_told (view document.now)) }
 {
-    let notes = notes_value(alloc, record)?;
+    let notes = notes_value(alloc, document)?;
     json!(in alloc; {
-        "executionSuccessful": is_whole(record),
+        "executionSuccessful": is_whole(document),
         "toolExecutionNotifications": notes
     })
 }
@@ -128,25 +128,25 @@ fn invocation_value(alloc: Global, record: &Value) -> Result<Value, AllocError>
 fn push_members(
     alloc: Global,
     members: &mut Map<String, Value>,
-    record: &Value,
+    document: &Value,
     keys: &[&str],
 ) -> Result<(), AllocError>
-    ensures { OnOk result (members_view members.new.entries ≡ picked (map (λ key. key.now) keys.now) (view record.now) (members_view members.old.entries)) }
+    ensures { OnOk result (members_view members.new.entries ≡ picked (map (λ key. key.now) keys.now) (view document.now) (members_view members.old.entries)) }
 {
     let [key, rest @ ..] = keys else {
         return Ok(());
     };
-    let member = member_at(alloc, record, key)?;
+    let member = member_at(alloc, document, key)?;
     put(members, alloc, key, member)?;
-    push_members(alloc, members, record, rest)
+    push_members(alloc, members, document, rest)
 }
 
 /// What the record has that is no result.
-fn properties_value(alloc: Global, record: &Value) -> Result<Value, AllocError>
-    ensures { IfOk result (λ value. view value ≡ properties_told (view record.now)) }
+fn properties_value(alloc: Global, document: &Value) -> Result<Value, AllocError>
+    ensures { IfOk result (λ value. view value ≡ properties_told (view document.now)) }
 {
     let mut members = Map::new(alloc);
-    push_members(alloc, &mut members, record, PROPERTIES)?;
+    push_members(alloc, &mut members, document, PROPERTIES)?;
     Ok(Value::Object(members))
 }
 
@@ -159,12 +159,12 @@ fn tool_value(alloc: Global) -> Result<Value, AllocError>
 }
 
 /// The one run of a log.
-fn run_value(alloc: Global, record: &Value) -> Result<Value, AllocError>
-    ensures { IfOk result (λ value. view value ≡ run_told (view record.now)) }
+fn run_value(alloc: Global, document: &Value) -> Result<Value, AllocError>
+    ensures { IfOk result (λ value. view value ≡ run_told (view document.now)) }
 {
-    let invocation = invocation_value(alloc, record)?;
-    let properties = properties_value(alloc, record)?;
-    let results = result_values(alloc, record)?;
+    let invocation = invocation_value(alloc, document)?;
+    let properties = properties_value(alloc, document)?;
+    let results = result_values(alloc, document)?;
     let tool = tool_value(alloc)?;
     json!(in alloc; {
         "invocations": [invocation],
@@ -176,10 +176,10 @@ fn run_value(alloc: Global, record: &Value) -> Result<Value, AllocError>
 
 /// The log in SARIF 2.1.0 of a record, which is a JSON object of the shape that `explain --format json` prints: a result for each of its
 /// warnings, races and faults and for its illegal request, and all else as properties of the run. Errors where there is no memory.
-pub fn log_value(alloc: Global, record: &Value) -> Result<Value, AllocError>
-    ensures { IfOk result (λ log. view log ≡ log_told (view record.now)) }
+pub fn log_value(alloc: Global, document: &Value) -> Result<Value, AllocError>
+    ensures { IfOk result (λ log. view log ≡ log_told (view document.now)) }
 {
-    let run = run_value(alloc, record)?;
+    let run = run_value(alloc, document)?;
     json!(in alloc; {
         "$schema": "https://json.schemastore.org/sarif-2.1.0.json",
         "runs": [run],

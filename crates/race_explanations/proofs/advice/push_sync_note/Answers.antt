@@ -7,4 +7,4 @@ use Rattle.race_explanations.proofs.advice.push_sync_note.Goals as goal
 pub returns-in-Some : goal.returns-in-Some
 returns-in-Some c =
     rw c.in-Some.is (three_adds _ _ _ _ _ _ _ c.begin_help.ensures
-    (these _ _ _ _ c.push_sync_help.ensures (ap (λ line. sync_help (setting_of c.args.scene.now) line c.args.onward) c.line_of.ensures)) c.push_words.ensures)
+    (these _ _ _ _ c.push_sync_help.ensures (ap (λ line. sync_help (setting_of c.args.scene.now) line c.args.onward c.args.is_sure) c.line_of-line.ensures)) c.push_words.ensures)

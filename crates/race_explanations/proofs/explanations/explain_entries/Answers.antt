@@ -1,4 +1,4 @@
-use Rattle.std.proofs.Common.{List, ◌≡◌, ◌++◌, length, map, take, sym, ap, ap₂, subst, ◌∙◌}
+use Rattle.std.proofs.Common.{List, ◌≡◌, ◌++◌, length, map, take, ap, ap₂, subst, ◌∙◌}
 use Rattle.std.proofs.lemmas.Result.{IfOk-weaker}
 use Rattle.model_histories.specs.declared.answer.Entry.{Entry}
 use Rattle.race_pairs.specs.declared.race.Pair.{Pair}

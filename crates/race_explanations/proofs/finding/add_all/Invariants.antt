@@ -8,4 +8,4 @@ use Rattle.race_explanations.proofs.finding.add_all.Given as goal
 -- the findings of the pairs so far are added
 abbrev pub invariant-loop-race : goal.invariant-loop-race
 invariant-loop-race l = (entries : List Entry) → AreRacesOf entries l.scene.digest.now l.races →
-    AddsAll (setting_of l.scene) entries (take l.race-index (map (λ race. race.pair) l.races)) l.initial.findings.items l.findings.items
+    AddsAll (setting_of l.scene) l.trace entries (take l.race-index (map (λ race. race.pair) l.races)) l.initial.findings.items l.findings.items

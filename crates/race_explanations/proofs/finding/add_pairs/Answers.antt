@@ -20,6 +20,6 @@ pub returns : goal.returns
 returns c = λ entries d.
     let kept = races_now entries c.args.scene.now.digest.now d in
     let r = kept.are in
-    pairs_added (setting_of c.args.scene.now) entries (most_of c.args.scene.now.digest.now) kept.pairs (map (λ (race : Race). race.pair) c.races.result.now) _ _ _ r.are_pairs
+    pairs_added (setting_of c.args.scene.now) c.args.trace entries (most_of c.args.scene.now.digest.now) kept.pairs (map (λ (race : Race). race.pair) c.races.result.now) _ _ _ r.are_pairs
     (ap (map (λ (race : Race). race.pair)) c.races.ensures ∙ r.first) (c.pair_count.ensures ∙ knows_count c.args.scene.now.digest.now.races.known kept.pairs kept.knows)
     (c.in_ok-add_all.ensures entries (d, subst (All (IsRace entries (length entries))) (sym c.races.ensures) r.each))

@@ -10,5 +10,5 @@ loop-place-init c = none_adds c.args.account.now
 
 pub loop-place-preserved : goal.loop-place-preserved
 loop-place-preserved c =
-    one_more (alone_at (setting_of c.args.scene.now) c.args.cases.now) c.args.places.now c.loop-place.place-index _ _ _ _
+    one_more (alone_at (setting_of c.args.scene.now) c.args.cases.now c.args.is_sure) c.args.places.now c.loop-place.place-index _ _ _ _
     (first_of (search rules, grind (arith, common_steps))) c.loop-place.invariant c.push_alone_at.ensures

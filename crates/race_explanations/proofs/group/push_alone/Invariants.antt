@@ -6,4 +6,4 @@ use Rattle.race_explanations.proofs.group.push_alone.Given as goal
 
 -- those so far are told
 abbrev pub invariant-loop-place : goal.invariant-loop-place
-invariant-loop-place l = Adds l.initial.account (alone_text (setting_of l.scene) l.cases (take l.place-index l.places)) l.account
+invariant-loop-place l = Adds l.initial.account (alone_text (setting_of l.scene) l.cases l.is_sure (take l.place-index l.places)) l.account

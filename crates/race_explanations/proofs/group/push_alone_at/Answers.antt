@@ -8,6 +8,6 @@ use Rattle.race_explanations.proofs.group.push_alone_at.Goals as goal
 pub returns-in-None : goal.returns-in-None
 returns-in-None c =
     let beyond : length c.args.cases.now ≤ c.args.place = rw c.in-None.is at c.get.ensures.lookup.3 in
-    let none : alone_at (setting_of c.args.scene.now) c.args.cases.now c.args.place ≡ [] =
-    ap (alone_of (setting_of c.args.scene.now)) (slice_get_past c.args.cases.now c.args.place beyond) in
+    let none : alone_at (setting_of c.args.scene.now) c.args.cases.now c.args.is_sure c.args.place ≡ [] =
+    ap (alone_of (setting_of c.args.scene.now) c.args.is_sure) (slice_get_past c.args.cases.now c.args.place beyond) in
     these _ _ _ _ (none_adds c.args.account.now) (sym none)

@@ -1,4 +1,4 @@
-use Rattle.std.proofs.Common.{ap}
+use Rattle.std.proofs.Common.{false, ap}
 use Rattle.race_explanations.specs.Scenes.{setting_of}
 use Rattle.race_explanations.specs.Groups.{alone_text, text_at_line}
 use Rattle.race_explanations.proofs.Accounts.{these}
@@ -11,4 +11,4 @@ returns-in-Some c =
 
 pub returns-in-None : goal.returns-in-None
 returns-in-None c =
-    rw c.in-None.is (these _ _ _ _ c.push_alone.ensures (ap (alone_text (setting_of c.args.scene.now) c.args.cases.now) c.as_slice-in-None.ensures.value))
+    rw c.in-None.is (these _ _ _ _ c.push_alone.ensures (ap (alone_text (setting_of c.args.scene.now) c.args.cases.now false) c.as_slice-in-None.ensures.value))

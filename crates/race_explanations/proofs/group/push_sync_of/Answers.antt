@@ -1,11 +1,10 @@
-use Rattle.std.proofs.Common.{ap, ◌∙◌}
+use Rattle.std.proofs.Common.{ap}
 use Rattle.race_explanations.specs.Scenes.{setting_of}
 use Rattle.race_explanations.specs.Advice.{sync_note}
-use Rattle.race_explanations.specs.Groups.{order_words}
 use Rattle.race_explanations.proofs.Accounts.{these}
 use Rattle.race_explanations.proofs.group.push_sync_of.Goals as goal
 
 pub returns-in-Some : goal.returns-in-Some
 returns-in-Some c =
     rw c.in-Some.is (these _ _ _ _ c.push_sync.ensures
-    (ap (sync_note (setting_of c.args.scene.now) c.args.line c.in-Some.first.line) (c.order_words-does.ensures ∙ ap order_words c.is_sure.ensures)))
+    (ap (sync_note (setting_of c.args.scene.now) c.args.line c.in-Some.first.line) c.is_sure-is_sure.ensures))

@@ -7,4 +7,4 @@ use Rattle.race_explanations.proofs.message.push_case.Goals as goal
 pub returns : goal.returns
 returns c =
     these _ _ _ _ c.push_message.ensures
-    (ap (λ places. message (setting_of c.args.scene.now) c.args.case.now.race.now.pair places c.args.case.now.encounter) c.as_slice.ensures.value)
+    (ap (λ places. message (setting_of c.args.scene.now) c.args.case.now.race.now.pair places c.args.case.now.encounter c.args.is_sure) c.as_slice.ensures.value)

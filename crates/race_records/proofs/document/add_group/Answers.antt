@@ -1,15 +1,12 @@
-use Rattle.std.proofs.Common.{rules, arith, sym, append-nil, map}
-use Rattle.std.proofs.lemmas.Grind.{common_steps}
+use Rattle.std.proofs.Common.{◌++◌, map, ap₂, ◌∙◌}
+use Rattle.std.proofs.lemmas.Result.{on_ok_weaker}
 use Rattle.serde_json.specs.View.{view}
 use Rattle.race_explanations.specs.Scenes.{setting_of}
-use Rattle.race_explanations.proofs.Gathering.{listed_behind}
-use Rattle.race_records.specs.Races.{told_at}
+use Rattle.race_records.specs.Races.{places_told}
 use Rattle.race_records.proofs.document.add_group.Goals as goal
 
-pub loop-place-init : goal.loop-place-init
-loop-place-init c = sym (append-nil (map view c.args.values.now.items))
-
-pub loop-place-preserved : goal.loop-place-preserved
-loop-place-preserved c =
-    listed_behind (told_at (setting_of c.args.scene.now) c.args.cases.now c.args.group) c.args.places.now c.loop-place.place-index _
-    (map view c.args.values.now.items) _ _ (first_of (search rules, grind (arith, common_steps))) c.loop-place.invariant c.in_ok-add_case.ensures
+pub returns : goal.returns
+returns c =
+    on_ok_weaker c.add_places.result
+    (λ is. is ∙ ap₂ (λ sure places. map view c.args.values.now.items ++ places_told (setting_of c.args.scene.now) c.args.cases.now c.args.number sure places)
+    c.in_ok-is_sure.ensures c.as_slice-places.ensures.value) c.add_places.ensures

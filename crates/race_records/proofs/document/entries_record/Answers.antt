@@ -1,4 +1,4 @@
-use Rattle.std.proofs.Common.{rules, List, map, sym, ap, ap₂, subst, ◌∙◌, string_bytes, take}
+use Rattle.std.proofs.Common.{rules, List, map, ap, ap₂, subst, ◌∙◌, string_bytes, take}
 use Rattle.std.proofs.lemmas.Result.{IfOk-weaker}
 use Rattle.serde_json.specs.View.{view}
 use Rattle.model_histories.specs.declared.answer.Entry.{Entry}

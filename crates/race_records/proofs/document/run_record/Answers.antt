@@ -1,5 +1,7 @@
 use Rattle.std.proofs.Common.{rules, sym, subst}
 use Rattle.std.proofs.lemmas.Result.{IfOk-weaker}
+use Rattle.std.specs.Ordering.{nat_cmp}
+use Rattle.std.specs.BTreeMap.{get}
 use Rattle.serde_json.specs.View.{view}
 use Rattle.text_words.specs.Text.{lines}
 use Rattle.program_text.specs.Programs.{contents}
@@ -12,7 +14,8 @@ use Rattle.race_records.proofs.document.run_record.Goals as goal
 pub returns : goal.returns
 returns c =
     IfOk-weaker c.entries_record.result _ _
-    (λ told records entries d. run_recorded c.args.form c.args.outcome c.args.extent c.args.file.now (lines c.args.text.now) (contents c.args.program.now) entries
+    (λ told records entries d. run_recorded c.args.form c.args.outcome c.args.extent c.args.file.now (lines c.args.text.now) (contents c.args.program.now)
+    (get nat_cmp c.args.wraps.now) entries
     (view c.args.memory) c.in_ok-warned.ensures.0 (setting_of c.program_scene-scene.result) (warned_parts c.in_ok-warned.warned) _ told.items
     (search rules) (search rules) (search (rules, c.in_ok-warned.ensures, c.in_ok-source.ensures)) (search rules)
     (records entries (subst (IsDigest entries) (sym c.program_scene-scene.ensures.digest) d)))

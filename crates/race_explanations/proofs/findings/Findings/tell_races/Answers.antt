@@ -1,6 +1,7 @@
-use Rattle.std.proofs.Common.{rules, ◌≡◌, ◌∙◌, ap, min, length, take}
-use Rattle.race_explanations.specs.Extents.{most_pairs}
-use Rattle.race_explanations.specs.Findings.{findings_text, findings_left_out}
+use Rattle.std.proofs.Common.{rules, ◌≡◌, ◌∙◌, ap, ap₂, min, length, take}
+use Rattle.race_explanations.specs.Extents.{most_pairs, most_shown}
+use Rattle.race_explanations.specs.FoundGroups.{found_groups_text}
+use Rattle.race_explanations.specs.Findings.{findings_left_out}
 use Rattle.race_explanations.proofs.Accounts.{these, four_adds}
 use Rattle.race_explanations.proofs.Telling.{first_of_all}
 use Rattle.race_explanations.proofs.findings.Findings.tell_races.Goals as goal
@@ -10,7 +11,7 @@ returns c =
     let list = c.args.self.now.list.items in
     let most = most_pairs c.args.extent in
     let front : c.split_at.result.0.now ≡ take (min (length list) c.most_pairs-most.result) list = search rules in
-    four_adds _ _ _ _ _ _ _ _ _ (these _ _ _ (findings_text (take most list)) c.tell_findings.ensures
-    (ap findings_text (front ∙ first_of_all list c.most_pairs-most.result ∙ ap (λ k. take k list) c.most_pairs-most.ensures)))
+    four_adds _ _ _ _ _ _ _ _ _ (these _ _ _ (found_groups_text (most_shown c.args.extent) (take most list)) c.tell_groups.ensures
+    (ap₂ found_groups_text c.most_shown.ensures (front ∙ first_of_all list c.most_pairs-most.result ∙ ap (λ k. take k list) c.most_pairs-most.ensures)))
     (these _ _ _ (findings_left_out most (length list)) c.tell_left_out.ensures (search rules))
     (these _ _ _ c.args.self.now.untold.items c.push_bytes.ensures (search rules)) c.tell_summary.ensures

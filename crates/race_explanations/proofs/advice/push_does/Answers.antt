@@ -1,0 +1,5 @@
+use Rattle.race_explanations.proofs.Accounts.{two_adds}
+use Rattle.race_explanations.proofs.advice.push_does.Goals as goal
+
+pub returns : goal.returns
+returns c = two_adds _ _ _ _ _ c.push_name.ensures c.push_words.ensures

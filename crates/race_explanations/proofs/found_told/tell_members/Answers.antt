@@ -1,0 +1,13 @@
+use Rattle.std.proofs.Common.{rules, arith}
+use Rattle.std.proofs.lemmas.Grind.{common_steps}
+use Rattle.race_explanations.specs.FoundGroups.{found_member}
+use Rattle.race_explanations.proofs.Accounts.{none_adds, one_more}
+use Rattle.race_explanations.proofs.found_told.tell_members.Goals as goal
+
+pub loop-place-init : goal.loop-place-init
+loop-place-init c = none_adds c.args.account.now
+
+pub loop-place-preserved : goal.loop-place-preserved
+loop-place-preserved c =
+    one_more (found_member c.args.findings.now) c.args.places.now c.loop-place.place-index _ _ _ _
+    (first_of (search rules, grind (arith, common_steps))) c.loop-place.invariant c.tell_member_at.ensures

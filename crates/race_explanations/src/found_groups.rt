@@ -1,0 +1,281 @@
+//! Findings of several traces, told together where they part at one spawn.
+
+ghost use Rattle.std.specs.Prelude.{◌≡◌, ◌++◌, ℕ, None, map, false, IfOk, OnOk};
+ghost use Rattle.std.specs.Global.{Vec as AnyVec};
+ghost use Rattle.std.specs.Option.{option_map};
+ghost use Rattle.race_explanations.specs.FoundGroups.{lead_at, is_one_spawn, are_of_one_spawn, is_joined, joined_at, group_from, group_at, groups_of};
+ghost use Rattle.race_explanations.specs.FoundGroups.{line_of_lead, before_place, nearer_lead, nearer_place, first_place, is_behind, is_ordered_behind, is_ordered_place};
+ghost use Rattle.race_explanations.specs.FoundGroups.{leaves_open_place, is_round_lead, round_at, round_place, is_within_lead, is_sure_first, are_sure};
+
+use crate::finding::Finding;
+use crate::lead::Lead;
+use std::alloc::{AllocError, Global};
+
+/// The spawn at which a finding parts.
+fn lead_in(finding: &Finding) -> Option<&Lead>
+    ensures { option_map (λ lead. lead.now) result ≡ finding.now.lead }
+{
+    match &finding.lead {
+        Some(lead) => Some(lead),
+        None => None,
+    }
+}
+
+/// The spawn at which the finding at a place parts.
+pub(crate) fn lead_at(findings: &[Finding], place: usize) -> Option<&Lead>
+    ensures { option_map (λ lead. lead.now) result ≡ lead_at findings.now place }
+{
+    match findings.get(place) {
+        Some(finding) => lead_in(finding),
+        None => None,
+    }
+}
+
+/// Whether both part at spawns that are told alike.
+fn is_one_spawn(one: Option<&Lead>, other: Option<&Lead>) -> bool
+    ensures { result ≡ is_one_spawn (option_map (λ lead. lead.now) one.entry) (option_map (λ lead. lead.now) other.entry) }
+{
+    match (one, other) {
+        (Some(one), Some(other)) => one.spawn.as_slice() == other.spawn.as_slice(),
+        _ => false,
+    }
+}
+
+/// Whether the findings at two places part at spawns that are told alike.
+fn are_of_one_spawn(findings: &[Finding], one: usize, other: usize) -> bool
+    ensures { result ≡ are_of_one_spawn findings.now one other }
+{
+    is_one_spawn(lead_at(findings, one), lead_at(findings, other))
+}
+
+/// Whether one of the findings before a place parts at the same spawn.
+fn is_joined(findings: &[Finding], place: usize) -> bool
+    ensures { result ≡ is_joined findings.now place place }
+{
+    let mut found = false;
+    for earlier in 0..place {
+        found |= are_of_one_spawn(findings, earlier, place);
+    }
+    found
+}
+
+/// Adds a place, where it is behind the first one and its finding parts at the same spawn.
+fn add_joined(
+    findings: &[Finding],
+    first: usize,
+    place: usize,
+    places: &mut Vec<usize>,
+) -> Result<(), AllocError>
+    ensures { OnOk result (places.new.items ≡ places.old.items ++ joined_at findings.now first place) }
+{
+    if first < place && are_of_one_spawn(findings, first, place) {
+        places.push(place)?;
+    }
+    Ok(())
+}
+
+/// The group that the finding at a place begins.
+fn group_from(alloc: Global, findings: &[Finding], first: usize) -> Result<Vec<usize>, AllocError>
+    ensures { IfOk result (λ places. places.items ≡ group_from findings.now first) }
+{
+    let mut places = Vec::new(alloc);
+    places.push(first)?;
+    for other in 0..findings.len() {
+        add_joined(findings, first, other, &mut places)?;
+    }
+    Ok(places)
+}
+
+/// Adds the group that the finding at a place begins, where no earlier one parts at the same spawn.
+fn add_group(
+    alloc: Global,
+    findings: &[Finding],
+    place: usize,
+    groups: &mut Vec<Vec<usize>>,
+) -> Result<(), AllocError>
+    ensures { OnOk result (map (λ (group : AnyVec ℕ). group.items) groups.new.items ≡
+        map (λ (group : AnyVec ℕ). group.items) groups.old.items ++ group_at findings.now place) }
+{
+    if is_joined(findings, place) {
+        return Ok(());
+    }
+    groups.push(group_from(alloc, findings, place)?)?;
+    Ok(())
+}
+
+/// The groups of findings that part at one spawn, by their places, in the order of their first findings. Errors where there is no memory.
+pub fn group_findings(alloc: Global, findings: &[Finding]) -> Result<Vec<Vec<usize>>, AllocError>
+    ensures { IfOk result (λ groups. map (λ (group : AnyVec ℕ). group.items) groups.items ≡ groups_of findings.now) }
+{
+    let mut groups = Vec::new(alloc);
+    for place in 0..findings.len() {
+        add_group(alloc, findings, place, &mut groups)?;
+    }
+    Ok(groups)
+}
+
+/// The line to which the spawner goes on.
+fn line_of_lead(lead: Option<&Lead>) -> u32
+    ensures { result ≡ line_of_lead (option_map (λ lead. lead.now) lead.entry) }
+{
+    match lead {
+        Some(lead) => lead.course.line,
+        None => 0,
+    }
+}
+
+/// The one of the two whose spawner goes on to the lesser line, and the first where these are one.
+fn before_place(findings: &[Finding], best: Option<usize>, place: usize, line: u32) -> usize
+    ensures { result ≡ before_place findings.now best place line }
+{
+    match best {
+        Some(best) => {
+            if line < line_of_lead(lead_at(findings, best)) {
+                place
+            } else {
+                best
+            }
+        }
+        None => place,
+    }
+}
+
+/// The same of such whose spawner goes on to another line than that of the spawn.
+fn nearer_lead(
+    findings: &[Finding],
+    best: Option<usize>,
+    place: usize,
+    lead: Option<&Lead>,
+) -> Option<usize>
+    ensures { result ≡ nearer_lead findings.now best place (option_map (λ lead. lead.now) lead.entry) }
+{
+    match lead {
+        Some(lead) => {
+            if lead.course.is_round {
+                best
+            } else {
+                Some(before_place(findings, best, place, lead.course.line))
+            }
+        }
+        None => best,
+    }
+}
+
+/// The same of the finding at a place.
+fn nearer_place(findings: &[Finding], best: Option<usize>, place: usize) -> Option<usize>
+    ensures { result ≡ nearer_place findings.now best place }
+{
+    nearer_lead(findings, best, place, lead_at(findings, place))
+}
+
+/// The place of the first finding whose spawner goes on to the least line, which is another than that of the spawn.
+pub(crate) fn first_place(findings: &[Finding], places: &[usize]) -> Option<usize>
+    ensures { result ≡ first_place findings.now None places.now }
+{
+    let mut best = None;
+    for place in places {
+        best = nearer_place(findings, best, *place);
+    }
+    best
+}
+
+/// Whether the other goes on behind the first one in one call of one trace.
+fn is_behind(first: &Lead, other: &Lead) -> bool
+    ensures { result ≡ is_behind first.now other.now }
+{
+    if other.trace == first.trace && other.course.spawn == first.course.spawn {
+        return !(other.course.onward < first.course.onward);
+    }
+    false
+}
+
+/// Whether a sync before the place of the first one stands before where the spawner of the other goes on.
+fn is_ordered_behind(first: Option<&Lead>, other: Option<&Lead>) -> bool
+    ensures { result ≡ is_ordered_behind (option_map (λ lead. lead.now) first.entry) (option_map (λ lead. lead.now) other.entry) }
+{
+    match (first, other) {
+        (Some(first), Some(other)) => {
+            other.onward.as_slice() == first.onward.as_slice() || is_behind(first, other)
+        }
+        _ => false,
+    }
+}
+
+/// The same of the findings at two places.
+fn is_ordered_place(findings: &[Finding], first: usize, other: usize) -> bool
+    ensures { result ≡ is_ordered_place findings.now first other }
+{
+    is_ordered_behind(lead_at(findings, first), lead_at(findings, other))
+}
+
+/// Whether some are not ordered by a sync before the place of the first one.
+fn leaves_open(findings: &[Finding], first: usize, places: &[usize]) -> bool
+    ensures { result ≡ leaves_open_place findings.now first false places.now }
+{
+    let mut found = false;
+    for place in places {
+        found |= !is_ordered_place(findings, first, *place);
+    }
+    found
+}
+
+/// Whether the spawner goes on to the line of the spawn.
+fn is_round_lead(lead: Option<&Lead>) -> bool
+    ensures { result ≡ is_round_lead (option_map (λ lead. lead.now) lead.entry) }
+{
+    match lead {
+        Some(lead) => lead.course.is_round,
+        None => false,
+    }
+}
+
+/// The place, where the spawner of its finding goes on to the line of the spawn.
+fn round_at(findings: &[Finding], place: usize) -> Option<usize>
+    ensures { result ≡ round_at findings.now place }
+{
+    if is_round_lead(lead_at(findings, place)) {
+        Some(place)
+    } else {
+        None
+    }
+}
+
+/// The place of the first finding whose spawner goes on to the line of the spawn.
+pub(crate) fn round_place(findings: &[Finding], places: &[usize]) -> Option<usize>
+    ensures { result ≡ round_place findings.now None places.now }
+{
+    let mut found = None;
+    for place in places {
+        found = found.or(round_at(findings, *place));
+    }
+    found
+}
+
+/// Whether the spawner goes on to a line of the function that spawns.
+fn is_within_lead(lead: Option<&Lead>) -> bool
+    ensures { result ≡ is_within_lead (option_map (λ lead. lead.now) lead.entry) }
+{
+    match lead {
+        Some(lead) => lead.is_within,
+        None => false,
+    }
+}
+
+/// Whether the sync that is told of the first one stands in the function that spawns, and orders all at these places.
+pub(crate) fn is_sure_first(findings: &[Finding], first: Option<usize>, places: &[usize]) -> bool
+    ensures { result ≡ is_sure_first findings.now first places.now }
+{
+    match first {
+        Some(first) => {
+            is_within_lead(lead_at(findings, first)) && !leaves_open(findings, first, places)
+        }
+        None => false,
+    }
+}
+
+/// Whether the sync that is told of the findings of a group orders them all.
+pub fn are_sure(findings: &[Finding], places: &[usize]) -> bool
+    ensures { result ≡ are_sure findings.now places.now }
+{
+    is_sure_first(findings, first_place(findings, places), places)
+}
