@@ -1,4 +1,5 @@
 pub mod Watched
+pub mod Devices
 pub mod Faults
 pub mod Sources
 pub mod Streams
@@ -6,3 +7,5 @@ pub mod Readings
 pub mod LineBuffers
 pub mod Tellings
 pub mod ElisionText
+pub mod PlainTexts
+pub mod KeptTexts

@@ -20,9 +20,9 @@ use text_words::TextFault;
 use trace_text::{BegunTrace, Trace};
 
 /// The most bytes that are read.
-const MOST_BYTES: usize = 67_108_864;
+pub(crate) const MOST_BYTES: usize = 67_108_864;
 /// How many bytes are asked for at once.
-const PIECE: usize = 131_072;
+pub(crate) const PIECE: usize = 131_072;
 
 /// Reads a piece and adds it to the text, before which so many bytes were read. It says whether there was one: there is none at the end.
 fn read_piece<A: Allocator, R: Read>(
@@ -56,7 +56,7 @@ fn read_piece<A: Allocator, R: Read>(
 
 /// Reads pieces until the text has so many bytes or the end is reached, and says whether there may be more. Each piece but the last has
 /// a byte, so a reader that is asked too often has too many.
-fn read_until<A: Allocator, R: Read>(
+pub(crate) fn read_until<A: Allocator, R: Read>(
     input: &mut Watched<R>,
     piece: &mut [u8],
     done: usize,
@@ -128,7 +128,7 @@ fn skip_rest<R: Read>(
 }
 
 /// Removes so many bytes at the head of a text.
-fn remove_front<A: Allocator>(text: &mut Vec<u8, A>, count: usize)
+pub(crate) fn remove_front<A: Allocator>(text: &mut Vec<u8, A>, count: usize)
     requires { count ≤ length text.old.items }
     ensures { text.new.items ≡ drop count text.old.items }
 {
@@ -195,7 +195,11 @@ pub fn parse_trace<A: Allocator + Copy>(
 }
 
 /// What stands behind so many bytes, in a list of its own.
-fn copy_behind<A: Allocator>(alloc: A, bytes: &[u8], end: usize) -> Result<Vec<u8, A>, AllocError>
+pub(crate) fn copy_behind<A: Allocator>(
+    alloc: A,
+    bytes: &[u8],
+    end: usize,
+) -> Result<Vec<u8, A>, AllocError>
     requires { end ≤ length bytes.now }
     ensures { IfOk result (λ text. text.items ≡ drop end bytes.now) }
 {

@@ -1,0 +1,97 @@
+use Rattle.std.proofs.Common.{◌≡◌, ℕ, List, length, refl, ap, arith}
+use Rattle.std.specs.Io.KnownBytes.{Consumes}
+use Rattle.std.proofs.lemmas.Result.{err_from_is_err_and, IfOk-weaker, IfErr-weaker}
+use Rattle.command_streams.specs.Watched.{held, calls_of}
+use Rattle.command_streams.proofs.Bytes.{uncalled, called_both, stops_first}
+use Rattle.command_streams.proofs.Reading.{head_read, head_whole}
+use Rattle.command_streams.proofs.kept.read_kept.Goals as goal
+
+pub returns-in_err-buffer-clause-calls : goal.returns-in_err-buffer-clause-calls
+returns-in_err-buffer-clause-calls g c = uncalled _ (calls_of c.args.input.now)
+
+pub returns-in_err-read_until-clause-fault : goal.returns-in_err-read_until-clause-fault
+returns-in_err-read_until-clause-fault g c =
+    let gone = err_from_is_err_and c.from_residual-in_err-read_until.result c.from_residual-in_err-read_until.ensures.1 in
+    rw (gone.1, gone.2) (stops_first (g.R.Read.remaining (held c.args.input.now)) (g.R.Read.remaining (held c.read_until.new.input))
+    c.new-head.result.items _ c.new-head.ensures.items c.in_err-read_until.ensures.fault)
+
+pub returns-then-not-branch-clause-ok : goal.returns-then-not-branch-clause-ok
+returns-then-not-branch-clause-ok g c =
+    head_whole (g.R.Read.remaining (held c.args.input.now)) (g.R.Read.remaining (held c.read_until.new.input)) _ c.new-head.result.items
+    c.read_until.new.text.items _ c.in_ok-read_until.ensures.taken c.new-head.ensures.items c.if-not-branch.true
+
+pub returns-in_err-found-clause-fault : goal.returns-in_err-found-clause-fault
+returns-in_err-found-clause-fault g c =
+    let gone = err_from_is_err_and c.from_residual-in_err-found.result c.from_residual-in_err-found.ensures.1 in
+    let before = g.R.Read.remaining (held c.args.input.now) in
+    let between = g.R.Read.remaining (held c.read_until.new.input) in
+    let head : List ℕ = c.read_until.new.text.items in
+    let slice : c.as_slice.result.now ≡ head = c.as_slice.ensures.value in
+    let stops = rw slice at c.in_err-found.ensures.fault in
+    rw (gone.1, gone.2) (stops before (head_read before between _ _ c.new-head.result.items head _ c.in_ok-read_until.ensures.taken c.new-head.ensures.items))
+
+pub returns-in_err-found-clause-calls : goal.returns-in_err-found-clause-calls
+returns-in_err-found-clause-calls g c =
+    let long : length c.as_slice.result.now ≡ length c.read_until.new.text.items = ap length c.as_slice.ensures.value in
+    called_both _ _ _ (calls_of c.args.input.now) (calls_of c.read_until.new.input) (calls_of c.read_behind.new.input)
+    (omega (arith, long, c.in_ok-read_until.ensures.taken.short)) (c.in_ok-read_until.ensures.counted c.if-not-branch.false) c.in_err-found.ensures.calls
+
+pub returns-in-Some-clause-ok : goal.returns-in-Some-clause-ok
+returns-in-Some-clause-ok g c =
+    let before = g.R.Read.remaining (held c.args.input.now) in
+    let between = g.R.Read.remaining (held c.read_until.new.input) in
+    let head : List ℕ = c.read_until.new.text.items in
+    let slice : c.as_slice.result.now ≡ head = c.as_slice.ensures.value in
+    let found = rw (c.in-Some.is, slice) at c.in_ok-found.ensures.found in
+    IfOk-weaker c.keep_found.result _ _
+    (λ kept from. from between (calls_of c.read_until.new.input) found before
+    (head_read before between _ _ c.new-head.result.items head _ c.in_ok-read_until.ensures.taken c.new-head.ensures.items))
+    c.keep_found.ensures.ok
+
+pub returns-in-Some-clause-fault : goal.returns-in-Some-clause-fault
+returns-in-Some-clause-fault g c =
+    let before = g.R.Read.remaining (held c.args.input.now) in
+    let between = g.R.Read.remaining (held c.read_until.new.input) in
+    let head : List ℕ = c.read_until.new.text.items in
+    let slice : c.as_slice.result.now ≡ head = c.as_slice.ensures.value in
+    let found = rw (c.in-Some.is, slice) at c.in_ok-found.ensures.found in
+    IfErr-weaker c.keep_found.result _ _
+    (λ fault stops. stops between (calls_of c.read_until.new.input) found before
+    (head_read before between _ _ c.new-head.result.items head _ c.in_ok-read_until.ensures.taken c.new-head.ensures.items))
+    c.keep_found.ensures.fault
+
+pub returns-in-Some-clause-calls : goal.returns-in-Some-clause-calls
+returns-in-Some-clause-calls g c =
+    let between = g.R.Read.remaining (held c.read_until.new.input) in
+    let slice : c.as_slice.result.now ≡ c.read_until.new.text.items = c.as_slice.ensures.value in
+    let found = rw (c.in-Some.is, slice) at c.in_ok-found.ensures.found in
+    called_both _ _ _ (calls_of c.args.input.now) (calls_of c.read_until.new.input) (calls_of c.keep_found.new.input)
+    (omega (arith, c.in_ok-read_until.ensures.taken.short)) (c.in_ok-read_until.ensures.counted c.if-not-branch.false)
+    (c.keep_found.ensures.calls between (calls_of c.read_until.new.input) found)
+
+pub returns-clause-ok : goal.returns-clause-ok
+returns-clause-ok g c =
+    let before = g.R.Read.remaining (held c.args.input.now) in
+    let between = g.R.Read.remaining (held c.read_until.new.input) in
+    let head : List ℕ = c.read_until.new.text.items in
+    let same : c.read_behind.new.input ≡ c.read_until.new.input = c.in_ok-found.ensures.none (rw c.in-None.is refl) in
+    let read : Consumes before (g.R.Read.remaining (held c.read_behind.new.input)) head =
+    rw same (head_read before between _ _ c.new-head.result.items head _ c.in_ok-read_until.ensures.taken c.new-head.ensures.items) in
+    IfOk-weaker c.read_rest.result _ _ (λ kept from. from before read) c.read_rest.ensures.ok
+
+pub returns-clause-fault : goal.returns-clause-fault
+returns-clause-fault g c =
+    let before = g.R.Read.remaining (held c.args.input.now) in
+    let between = g.R.Read.remaining (held c.read_until.new.input) in
+    let head : List ℕ = c.read_until.new.text.items in
+    let same : c.read_behind.new.input ≡ c.read_until.new.input = c.in_ok-found.ensures.none (rw c.in-None.is refl) in
+    let read : Consumes before (g.R.Read.remaining (held c.read_behind.new.input)) head =
+    rw same (head_read before between _ _ c.new-head.result.items head _ c.in_ok-read_until.ensures.taken c.new-head.ensures.items) in
+    IfErr-weaker c.read_rest.result _ _ (λ fault stops. stops before read) c.read_rest.ensures.fault
+
+pub returns-clause-calls : goal.returns-clause-calls
+returns-clause-calls g c =
+    let same : c.read_behind.new.input ≡ c.read_until.new.input = c.in_ok-found.ensures.none (rw c.in-None.is refl) in
+    let more = rw same at c.read_rest.ensures.calls in
+    called_both _ _ _ (calls_of c.args.input.now) (calls_of c.read_until.new.input) (calls_of c.read_rest.new.input)
+    (omega (arith, c.in_ok-read_until.ensures.taken.short)) (c.in_ok-read_until.ensures.counted c.if-not-branch.false) more
