@@ -4,14 +4,17 @@ ghost use Rattle.std.specs.Prelude.{◌≡◌, ◌<◌, ◌≤◌, false};
 ghost use Rattle.model_histories.specs.Shapes.{most_entries};
 ghost use Rattle.command_streams.specs.Watched.{has_failed};
 
+mod advice;
 mod drawings;
 mod elisions;
 mod explanations;
 mod failures;
 mod groups;
 mod hosts;
+mod kept;
 mod logs;
 mod many;
+mod parts;
 mod pieces;
 mod recorded;
 mod records;
@@ -21,6 +24,7 @@ mod schedules;
 mod verdicts;
 mod words;
 mod worked;
+mod wraps;
 
 use crate::devices::Filling;
 use std::alloc::{AllocError, Global};
@@ -171,7 +175,7 @@ fn answered<P: Read, R: Abort + Threads + Wait + Sync>(
         }
         Run(workers, limit) => {
             let (workers, limit) = (manned(rt, workers), limited(rt, limit));
-            run_text(rt, alloc, input, workers, &OpenDoor, output, limit)
+            run_text(rt, alloc, alloc, input, workers, &OpenDoor, output, limit)
         }
         Trace(workers, limit) => {
             let (workers, limit) = (manned(rt, workers), limited(rt, limit));

@@ -6,6 +6,7 @@ ghost use Rattle.std.specs.Io.KnownBytes.{Appends};
 ghost use Rattle.trace_text.specs.Traces.{contents};
 ghost use Rattle.model_histories.specs.Shapes.{most_entries};
 ghost use Rattle.model_histories.specs.declared.reply.Reply.{Reply as SpecReply};
+ghost use Rattle.command_streams.specs.Devices.{LeavesDevices};
 ghost use Rattle.command_streams.specs.Watched.{held, has_failed, is_delivered, calls_of, IsCalledAtMost};
 ghost use Rattle.judge_command.specs.StatusFlags.{Tells};
 ghost use Rattle.verdict_lines.specs.VerdictText.{verdict_text};
@@ -85,11 +86,8 @@ pub fn judge_stream<A: Allocator + Copy, R: Read, W: Write>(
         (W.contents (held output.old)) (W.contents (held output.new)) limit replies) }
     ensures fault { IfErr result (HasCause (R.remaining (held input.old)) (R.remaining (held input.new))
         (W.contents (held output.old)) (W.contents (held output.new)) limit) }
-    ensures read_failed { IsErrOf result CliFault.Read ↔ IsTrue (has_failed input.new) }
-    ensures delivered { OnOk result (is_delivered output.new ≡ true) }
-    ensures write_failed { IsErrOf result CliFault.Write ↔ IsTrue (has_failed output.new) }
+    ensures devices { LeavesDevices result (has_failed input.new) output.old output.new }
     ensures reads { IsCalledAtMost most_reads (calls_of input.old) (calls_of input.new) }
-    ensures unwritten { IfErr result (λ fault. fault ≢ CliFault.Write → output.new ≡ output.old) }
 {
     let trace = read_trace(alloc, input)?;
     answer_trace(alloc, &trace, output, limit)

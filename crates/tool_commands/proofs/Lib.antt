@@ -20,3 +20,4 @@ mod Unnoted
 mod Explaining
 mod Replaying
 mod Taking
+mod TraceTexts

@@ -2,6 +2,8 @@
 use Rattle.std.specs.Prelude.{ℕ, zero, suc, ◌≡◌, ◌≤◌, ◌⊎◌, Bool, true, false, Option, List, ◌++◌, length, flat_map, reverse, codes, decimal}
 use Rattle.std.specs.Global.{Global}
 use Rattle.std.specs.Io.KnownBytes.{Appends}
+use Rattle.std.specs.Ordering.{nat_cmp}
+use Rattle.std.specs.BTreeMap.{BTreeMap, get}
 use Rattle.text_words.specs.declared.fault.Cause.{Cause}
 use Rattle.text_words.specs.Declarations.{cells_of}
 use Rattle.text_words.specs.Text.{lines}
@@ -17,6 +19,7 @@ use Rattle.model_histories.specs.declared.answer.Entry.{Entry}
 use Rattle.model_races.specs.Memory.{IsMemory}
 use Rattle.model_histories.specs.Extensions.{IsFinished, IsClean}
 use Rattle.model_runs.specs.Runs.{IsRun, IsFinishedRun}
+use Rattle.run_replay.specs.Wraps.{AreWraps}
 use Rattle.locked_replay.specs.Laws.{SpeaksForAll}
 use Rattle.law_traces.specs.CleanTraces.{SpeaksForOrders}
 use Rattle.serde_json.specs.Data.{null}
@@ -84,23 +87,29 @@ cut_text limit = (cut_words ++ decimal limit) ++ cut_behind
 
 -- ---- in each form
 
--- where nothing was refused in a run that left this memory
-abbrev pub TellsClean : Rendering → Manner → (text : List ℕ) → Contents → List Entry → (memory told : List ℕ) → Type 0
-TellsClean Text manner text program entries memory told = told ≡ clean_text program memory
-TellsClean (Record form) manner text program entries memory told =
-    RecordsRun form CleanEnding manner.extent manner.file (lines text) program entries (memory_told program.known.mems memory) told
+-- the index that a run wraps first on each line
+abbrev pub Wrapping : Type 0
+Wrapping = ℕ → Option ℕ
+
+-- where nothing was refused in a run that left this memory and wraps these indexes
+abbrev pub TellsClean : Rendering → Manner → (text : List ℕ) → Contents → Wrapping → List Entry → (memory told : List ℕ) → Type 0
+TellsClean Text manner text program wraps entries memory told = told ≡ clean_text program memory
+TellsClean (Record form) manner text program wraps entries memory told =
+    RecordsRun form CleanEnding manner.extent manner.file (lines text) program wraps entries (memory_told program.known.mems memory) told
 
 -- where something was refused
-abbrev pub TellsRaces : Rendering → Manner → (text : List ℕ) → Contents → List Entry → (told : List ℕ) → Type 0
-TellsRaces Text manner text program entries told = IsExplanation manner.is_painted manner.extent manner.file (lines text) program entries told
-TellsRaces (Record form) manner text program entries told = RecordsRun form RacedEnding manner.extent manner.file (lines text) program entries null told
+abbrev pub TellsRaces : Rendering → Manner → (text : List ℕ) → Contents → Wrapping → List Entry → (told : List ℕ) → Type 0
+TellsRaces Text manner text program wraps entries told = IsExplanation manner.is_painted manner.extent manner.file (lines text) program entries told
+TellsRaces (Record form) manner text program wraps entries told =
+    RecordsRun form RacedEnding manner.extent manner.file (lines text) program wraps entries null told
 
 -- where the limit ended the run: the races until then, and that it is no whole run
-abbrev pub TellsCut : Rendering → Manner → (text : List ℕ) → Contents → List Entry → (told : List ℕ) → Type 0
-TellsCut Text manner text program entries told =
+abbrev pub TellsCut : Rendering → Manner → (text : List ℕ) → Contents → Wrapping → List Entry → (told : List ℕ) → Type 0
+TellsCut Text manner text program wraps entries told =
     (explanation : List ℕ) × (_ : IsExplanation manner.is_painted manner.extent manner.file (lines text) program entries explanation) ×
     (told ≡ explanation ++ cut_text (length entries))
-TellsCut (Record form) manner text program entries told = RecordsRun form UnfinishedEnding manner.extent manner.file (lines text) program entries null told
+TellsCut (Record form) manner text program wraps entries told =
+    RecordsRun form UnfinishedEnding manner.extent manner.file (lines text) program wraps entries null told
 
 -- the faults of the text that can be told apart, the first of which is this one
 abbrev pub TellsFaulty : Rendering → Manner → Meant → (text : List ℕ) → Fault → (told : List ℕ) → Type 0
@@ -116,6 +125,26 @@ TellsIllegal (Record form) manner text trace number why told =
 
 -- ---- a run
 
+-- The warnings of the program are told, and behind them what is told of a run.
+pub record WarnsBefore (manner : Manner) (text : List ℕ) (program : Contents) (wraps : Wrapping) (run told : List ℕ) : Type 0 where
+  pub warnings : List ℕ
+  pub warns : TellsWarnings manner.is_painted manner.file (lines text) program wraps warnings
+  pub told_is : told ≡ warnings ++ run
+
+-- To a person the warnings are told before the run; a record of the run has them.
+abbrev pub IsBehindWarnings : Rendering → Manner → (text : List ℕ) → Contents → Wrapping → (run told : List ℕ) → Type 0
+IsBehindWarnings Text manner text program wraps run told = WarnsBefore manner text program wraps run told
+IsBehindWarnings (Record form) manner text program wraps run told = told ≡ run
+
+-- The indexes are those that the run wraps, and the run is told, and the warnings of the program.
+pub record TellsWarned (manner : Manner) (text : List ℕ) (program : Contents) (entries : List Entry) (TellsRun : Wrapping → List ℕ → Type 0)
+    (told : List ℕ) : Type 0 where
+  pub wraps : BTreeMap ℕ ℕ
+  pub are_wraps : AreWraps program.functions (shape_of_program program) (reverse entries) wraps
+  pub run : List ℕ
+  pub tells_run : TellsRun (get nat_cmp wraps) run
+  pub behind : IsBehindWarnings manner.rendering manner text program (get nat_cmp wraps) run told
+
 -- A finished run in which nothing was refused is told, which speaks for every schedule.
 pub record IsCleanTold (manner : Manner) (text : List ℕ) (program : Contents) (limit : ℕ) (told : List ℕ) : Type 0 where
   pub entries : List Entry
@@ -125,7 +154,7 @@ pub record IsCleanTold (manner : Manner) (text : List ℕ) (program : Contents) 
   pub left : IsMemory (cells_of program.known.mems) (reverse entries) memory
   pub clean : IsClean (reverse entries)
   pub speaks : SpeaksForAll program.functions (shape_of_program program) (reverse entries)
-  pub tells : TellsClean manner.rendering manner text program entries memory told
+  pub tells : TellsWarned manner text program entries (λ wraps run. TellsClean manner.rendering manner text program wraps entries memory run) told
 
 -- The races of a finished run are told.
 pub record IsRacedTold (manner : Manner) (text : List ℕ) (program : Contents) (limit : ℕ) (told : List ℕ) : Type 0 where
@@ -133,7 +162,7 @@ pub record IsRacedTold (manner : Manner) (text : List ℕ) (program : Contents) 
   pub run : IsFinishedRun program.functions (shape_of_program program) (reverse entries)
   pub within : length entries ≤ limit
   pub raced : IsClean (reverse entries) → ⊥
-  pub explains : TellsRaces manner.rendering manner text program entries told
+  pub explains : TellsWarned manner text program entries (λ wraps run. TellsRaces manner.rendering manner text program wraps entries run) told
 
 -- The races are told of a run that has just as many entries as the limit and has not come to its end, and that it is no whole run.
 pub record IsCutTold (manner : Manner) (text : List ℕ) (program : Contents) (limit : ℕ) (told : List ℕ) (refused : ℕ) : Type 0 where
@@ -141,7 +170,7 @@ pub record IsCutTold (manner : Manner) (text : List ℕ) (program : Contents) (l
   pub run : IsRun program.functions (shape_of_program program) (reverse entries)
   pub full : length entries ≡ limit
   pub unfinished : IsFinished (reverse entries) → ⊥
-  pub explains : TellsCut manner.rendering manner text program entries told
+  pub explains : TellsWarned manner text program entries (λ wraps run. TellsCut manner.rendering manner text program wraps entries run) told
   pub refused_is : refused ≡ refusal_status entries
 
 -- A run with this end is told.
@@ -157,25 +186,12 @@ status_of_end Raced = 1
 status_of_end Cut = 4
 status_of_end CutRaced = 1
 
--- The warnings of the program are told, and behind them what is told of a run.
-pub record WarnsBefore (manner : Manner) (text : List ℕ) (program : Contents) (run told : List ℕ) : Type 0 where
-  pub warnings : List ℕ
-  pub warns : TellsWarnings manner.is_painted manner.file (lines text) program warnings
-  pub told_is : told ≡ warnings ++ run
-
--- To a person the warnings are told before the run; a record of the run has them.
-abbrev pub IsBehindWarnings : Rendering → Manner → (text : List ℕ) → Contents → (run told : List ℕ) → Type 0
-IsBehindWarnings Text manner text program run told = WarnsBefore manner text program run told
-IsBehindWarnings (Record form) manner text program run told = told ≡ run
-
 -- The warnings of the program are told that the text means, and a run of it.
 pub record IsRunTold (manner : Manner) (text : List ℕ) (limit : ℕ) (told : List ℕ) (status : ℕ) : Type 0 where
   pub program : Contents
   pub end : End
   pub means : TextMeans text program
-  pub run : List ℕ
-  pub tells : TellsEnd manner text program limit run end
-  pub behind : IsBehindWarnings manner.rendering manner text program run told
+  pub tells : TellsEnd manner text program limit told end
   pub status_is : status ≡ status_of_end end
 
 -- The faults of the text that can be told apart are told, the first of which is its fault.

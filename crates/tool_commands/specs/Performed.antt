@@ -1,11 +1,12 @@
 -- What a job does: from what standard input and files hold to what is written, and the status.
 use Rattle.std.specs.Global.{Global}
-use Rattle.std.specs.Prelude.{ℕ, Bool, true, false, ◌≡◌, ◌⊎◌, Option, Some, None, Result, Ok, Err, List, [], ◌∷◌, codes, map, String, if◌then◌else◌}
+use Rattle.std.specs.Prelude.{ℕ, Bool, true, false, ◌≡◌, ◌⊎◌, Option, Some, None, Result, Ok, Err, IfOk, IfErr, IsErrOf, List, [], ◌∷◌, codes, map, String, if◌then◌else◌}
 use Rattle.std.specs.String.{string_bytes}
 use Rattle.std.specs.Str.{bytes_eq}
 use Rattle.std.specs.Io.KnownBytes.{Appends}
 use Rattle.model_histories.specs.declared.reply.Reply.{Reply}
 use Rattle.command_streams.specs.declared.fault.CliFault.{CliFault}
+use Rattle.command_streams.specs.declared.fault.CliFault.TheVariants.{Read}
 use Rattle.command_words.specs.declared.words.Job.{Job}
 use Rattle.command_words.specs.declared.words.Job.TheVariants.{Judge, Elide, Run, Trace, Record, Explain, ExplainInput, ExplainTraces, Replay, Draw, Show}
 use Rattle.command_words.specs.Asked.{input_word}
@@ -181,6 +182,12 @@ LacksFile lacks (Replay file trace) =
     lacks_named lacks (string_bytes file) ⊎ lacks_replayed lacks (string_bytes file) (string_bytes trace)
 LacksFile lacks (Draw file language) = lacks_named lacks (string_bytes file)
 LacksFile lacks job = ⊥
+
+-- How the job ends: it was done at a status, or has a fault with its cause, which is that of reading where a file of it can't be opened.
+pub record EndsJob (sources : Sources) (lacks : List ℕ → Type 0) (job : Job) (wrote writes : Option (List ℕ)) (result : Result ℕ CliFault) : Type 0 where
+  pub done : IfOk result (IsPerformed sources job wrote writes)
+  pub fault : IfErr result (HasJobCause sources job wrote writes)
+  pub lacking : LacksFile lacks job → IsErrOf result Read
 
 -- the job starts no thread and waits for none
 abbrev pub IsAlone : Job → Type 0

@@ -1,11 +1,13 @@
 -- What is read of a program, and what is written of its run by many workers.
-use Rattle.std.specs.Prelude.{ℕ, ◌≡◌, ◌<◌, ◌≤◌, ◌⊎◌, ◌↔◌, true, Option, List, ◌++◌, length, reverse, codes}
+use Rattle.std.specs.Prelude.{ℕ, ◌≡◌, ◌<◌, ◌≤◌, ◌⊎◌, ◌↔◌, true, Option, List, ◌++◌, length, reverse, codes, IsTrue}
 use Rattle.std.specs.List.{All, flat_map}
 use Rattle.std.specs.List.Sorted.{IsPermutation}
 use Rattle.std.specs.Io.KnownBytes.{Appends}
 use Rattle.text_words.specs.Declarations.{cells_of}
+use Rattle.program_text.specs.declared.program.Program.{Program as ParsedProgram}
 use Rattle.program_text.specs.Drafts.{Contents}
 use Rattle.program_text.specs.Grammar.{TextMeans}
+use Rattle.program_text.specs.Shapes.{shape_in}
 use Rattle.model_histories.specs.declared.answer.Entry.{Entry}
 use Rattle.model_histories.specs.declared.reply.Receipt.{Receipt}
 use Rattle.model_histories.specs.Entries.{Entries}
@@ -16,6 +18,7 @@ use Rattle.model_histories.specs.Extensions.{IsFinished, IsClean}
 use Rattle.model_runs.specs.Runs.{IsRun, IsFinishedRun}
 use Rattle.locked_replay.specs.declared.fault.RunFault.{RunFault}
 use Rattle.locked_replay.specs.declared.fault.RunFault.TheVariants as run
+use Rattle.locked_replay.specs.declared.whole.Whole.{Whole}
 use Rattle.locked_replay.specs.Receipts.{numbered, Rises}
 use Rattle.locked_replay.specs.Strange.{IsStrangeGate}
 use Rattle.locked_replay.specs.Laws.{SpeaksForAll}
@@ -68,6 +71,13 @@ IsRunFault program limit Torn = IsLeft IsTornGate
 IsRunFault program limit Strange = IsLeft (IsStrangeGate program.functions (shape_of_program program))
 IsRunFault program limit Memory = Unit {0}
 IsRunFault program limit fault = ⊥
+
+-- It is a finished run of the program, of at most so many entries. Its memory is that of the run, and it says whether nothing was refused.
+pub record IsWholeRun {A B : Type 0} (program : ParsedProgram A) (limit : ℕ) (whole : Whole B) : Type 0 where
+  pub run : IsFinishedRun program.functions (shape_in program) (reverse whole.entries.items)
+  pub memory : IsMemory (shape_in program).cells (reverse whole.entries.items) whole.memory.items
+  pub clean : IsTrue whole.clean ↔ IsClean (reverse whole.entries.items)
+  pub within : length whole.entries.items ≤ limit
 
 -- the report of these entries, oldest first, that leave this memory, and a line feed
 abbrev pub run_line : Contents → List Entry → List ℕ → List ℕ

@@ -1,12 +1,13 @@
 //! Drawing the dag of the trace that a reader gives.
 
-ghost use Rattle.std.specs.Prelude.{◌≡◌, ◌↔◌, ◌≢◌, ◌⊎◌, true, false, reverse, IfOk, IfErr, OnOk, IsErrOf, IsTrue};
+ghost use Rattle.std.specs.Prelude.{◌≡◌, ◌⊎◌, false, reverse, IfOk, IfErr};
 ghost use Rattle.trace_text.specs.Traces.{contents};
 ghost use Rattle.text_words.specs.Text.{lines};
 ghost use Rattle.trace_notes.specs.Notes.{AreNotes};
 ghost use Rattle.dag_drawing.specs.Walks.{IsLegalHistory};
 ghost use Rattle.dag_drawing.specs.Drawn.{IsDrawing};
-ghost use Rattle.command_streams.specs.Watched.{held, has_failed, is_delivered, calls_of, IsCalledAtMost};
+ghost use Rattle.command_streams.specs.Devices.{LeavesDevices};
+ghost use Rattle.command_streams.specs.Watched.{held, has_failed, calls_of, IsCalledAtMost};
 ghost use Rattle.command_streams.specs.Streams.{most_reads};
 ghost use Rattle.command_streams.specs.Readings.{reading};
 ghost use Rattle.tool_commands.specs.Replays.{AnswersAll, StopsGate};
@@ -83,11 +84,8 @@ pub fn draw_text<A: Allocator + Copy, R: Read, W: Write>(
         (W.contents (held output.old)) (W.contents (held output.new))) }
     ensures fault { IfErr result (HasDrawingCause A form (reading (R.remaining (held input.old)) (R.remaining (held input.new)))
         (W.contents (held output.old)) (W.contents (held output.new))) }
-    ensures read_failed { IsErrOf result CliFault.Read ↔ IsTrue (has_failed input.new) }
-    ensures delivered { OnOk result (is_delivered output.new ≡ true) }
-    ensures write_failed { IsErrOf result CliFault.Write ↔ IsTrue (has_failed output.new) }
+    ensures devices { LeavesDevices result (has_failed input.new) output.old output.new }
     ensures reads { IsCalledAtMost most_reads (calls_of input.old) (calls_of input.new) }
-    ensures unwritten { IfErr result (λ fault. fault ≢ CliFault.Write → output.new ≡ output.old) }
 {
     let bytes = read_text(alloc, input)?;
     let notes = notes_of(alloc, bytes.as_slice())?;

@@ -1,6 +1,6 @@
 //! Writing the elision of the program that a reader gives.
 
-ghost use Rattle.std.specs.Prelude.{◌≡◌, ◌↔◌, ◌≤◌, ◌≢◌, ◌++◌, ◌+◌, ℕ, List, [], true, false, IfOk, IfErr, OnOk, IsErrOf, IsTrue};
+ghost use Rattle.std.specs.Prelude.{◌≡◌, ◌↔◌, ◌≤◌, ◌++◌, ◌+◌, ℕ, List, [], true, false, IfOk, IfErr, OnOk, IsErrOf, IsTrue};
 ghost use Rattle.std.specs.List.{All};
 ghost use Rattle.std.specs.Io.KnownBytes.{Appends};
 ghost use Rattle.text_words.specs.declared.fault.TextFault.{TextFault as SpecFault};
@@ -8,6 +8,7 @@ ghost use Rattle.trace_text.specs.Shapes.{name_in};
 ghost use Rattle.program_text.specs.Grammar.{TextMeans};
 ghost use Rattle.program_text.specs.Programs.{contents};
 ghost use Rattle.model_histories.specs.Shapes.{most_entries};
+ghost use Rattle.command_streams.specs.Devices.{LeavesDevices};
 ghost use Rattle.command_streams.specs.Watched.{held, has_failed, is_delivered, calls_of, IsCalledAtMost};
 ghost use Rattle.tool_commands.specs.Programs.{fault_of_program};
 ghost use Rattle.command_streams.specs.Streams.{most_reads, StopsWriting};
@@ -204,11 +205,8 @@ pub fn elide_text<A: Allocator + Copy, R: Read, W: Write>(
         (W.contents (held output.old)) (W.contents (held output.new)) limit) }
     ensures fault { IfErr result (HasElisionCause (R.remaining (held program.old)) (R.remaining (held program.new))
         (W.contents (held output.old)) (W.contents (held output.new)) limit) }
-    ensures read_failed { IsErrOf result CliFault.Read ↔ IsTrue (has_failed program.new) }
-    ensures delivered { OnOk result (is_delivered output.new ≡ true) }
-    ensures write_failed { IsErrOf result CliFault.Write ↔ IsTrue (has_failed output.new) }
+    ensures devices { LeavesDevices result (has_failed program.new) output.old output.new }
     ensures reads { IsCalledAtMost most_reads (calls_of program.old) (calls_of program.new) }
-    ensures unwritten { IfErr result (λ fault. fault ≢ CliFault.Write → output.new ≡ output.old) }
 {
     let text = read_text(alloc, program)?;
     let program = parse_program(alloc, text)?;

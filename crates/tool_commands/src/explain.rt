@@ -1,7 +1,9 @@
 //! Explaining a run of the program that a reader gives.
 
-ghost use Rattle.std.specs.Prelude.{◌≡◌, ◌↔◌, ◌<◌, ◌≤◌, ◌≢◌, ◌⊎◌, ◌++◌, true, false, List, length};
-ghost use Rattle.std.specs.Prelude.{reverse, decimal, IfOk, IfErr, OnOk, IsErrOf, IsTrue};
+ghost use Rattle.std.specs.Prelude.{◌≡◌, ◌↔◌, ◌<◌, ◌≤◌, ◌⊎◌, ◌++◌, ℕ, true, false, Option, List, length};
+ghost use Rattle.std.specs.Prelude.{reverse, decimal, IfOk, IfErr, OnOk, IsTrue};
+ghost use Rattle.std.specs.Ordering.{nat_cmp};
+ghost use Rattle.std.specs.BTreeMap.{get};
 ghost use Rattle.program_text.specs.Grammar.{TextMeans};
 ghost use Rattle.program_text.specs.Faults.{TextFaults};
 ghost use Rattle.program_text.specs.Programs.{contents};
@@ -11,9 +13,12 @@ ghost use Rattle.model_histories.specs.Extensions.{IsClean};
 ghost use Rattle.program_text.specs.Shapes.{shape_in};
 ghost use Rattle.model_runs.specs.Runs.{IsFinishedRun};
 ghost use Rattle.run_replay.specs.Replays.{IsUnfinishedRun};
-ghost use Rattle.command_streams.specs.Watched.{held, has_failed, is_delivered, calls_of, IsCalledAtMost};
+ghost use Rattle.run_replay.specs.Wraps.{AreWraps};
+ghost use Rattle.command_streams.specs.Devices.{LeavesDevices};
+ghost use Rattle.command_streams.specs.Watched.{held, has_failed, calls_of, IsCalledAtMost};
 ghost use Rattle.command_streams.specs.Streams.{most_reads};
 ghost use Rattle.command_streams.specs.Readings.{reading};
+ghost use Rattle.command_streams.specs.KeptTexts.{text_of, IsKept};
 ghost use Rattle.tool_commands.specs.Runs.{IsRunFault, WantsMore};
 ghost use Rattle.tool_commands.specs.Explanations.{Manner as SpecManner, clean_words, clean_text, cut_words, cut_behind, cut_text};
 ghost use Rattle.tool_commands.specs.Explanations.{TellsClean, TellsRaces, TellsCut, TellsFaulty};
@@ -31,15 +36,17 @@ use crate::memory::memory_value;
 use crate::outcome::{Outcome, outcome_of, refusal_status};
 use crate::run::{Door, PARTS, fault_of, serial_run, some_run};
 use crate::sort::is_program;
-use command_streams::{CliFault, Watched, read_text, write_text};
+use command_streams::{CliFault, KeptText, Watched, read_kept, write_text};
 use fault_lists::{Fault, faults_message};
 use locked_replay::{RunFault, Whole};
+use packed_history::Entries;
 use program_text::Program;
-use program_warnings::program_warnings;
+use program_warnings::{Wraps, program_warnings};
 use race_explanations::{Extent, explanation, most_pairs};
 use race_gate::{Entry, ShortGate};
 use race_pairs::Digest;
 use race_records::{Outcome as Ending, RecordForm, faults_record, run_record};
+use run_replay::find_wraps;
 use serde_json::Value;
 use source_quotes::Meant;
 use std::alloc::{AllocError, Global};
@@ -128,6 +135,51 @@ fn cut_behind() -> &'static str
     " requests, and there may be more to tell\n"
 }
 
+/// The indexes that a run wraps. Errors where there is no memory.
+fn wraps_of(
+    alloc: Global,
+    program: &Program<Global>,
+    entries: &Entries<Global>,
+) -> Result<Wraps, AllocError>
+    requires judged { IsJudged (shape_in program.now) (reverse entries.now.items) }
+    requires within { length entries.now.items ≤ most_entries }
+    ensures { IfOk result (λ wraps. AreWraps program.now.functions (shape_in program.now) (reverse entries.now.items) wraps) }
+{
+    match find_wraps(alloc, program, entries) {
+        Ok(wraps) => Ok(wraps),
+        Err(_) => Err(AllocError),
+    }
+}
+
+/// What is told of a run of a program to a person, behind the warnings of the program. A record of the run has these.
+fn behind_warnings(
+    alloc: Global,
+    manner: &Manner<'_>,
+    text: &[u8],
+    program: &Program<Global>,
+    wraps: &Wraps,
+    run: Vec<u8>,
+) -> Result<Vec<u8>, AllocError>
+    ensures { IfOk result (λ told. IsBehindWarnings manner.now.rendering manner.now text.now (contents program.now) (get nat_cmp wraps.now)
+        run.items told.items) }
+{
+    match manner.rendering {
+        Rendering::Text => {
+            let mut told = program_warnings(
+                alloc,
+                manner.is_painted,
+                manner.file,
+                text,
+                program,
+                wraps,
+            )?;
+            told.extend_from_slice(run.as_slice())?;
+            Ok(told)
+        }
+        Rendering::Record(_) => Ok(run),
+    }
+}
+
 /// What a person is told where nothing was refused.
 fn clean_text_told(
     alloc: Global,
@@ -149,11 +201,12 @@ fn clean_record(
     manner: &Manner<'_>,
     text: &[u8],
     program: &Program<Global>,
+    wraps: &Wraps,
     whole: &Whole,
 ) -> Result<Vec<u8>, AllocError>
     requires judged { (shape : Shape) × IsJudged shape (reverse whole.now.entries.items) }
     requires few { length whole.now.entries.items ≤ most_entries }
-    ensures { IfOk result (λ told. TellsClean (Rendering.Record form) manner.now text.now (contents program.now) whole.now.entries.items whole.now.memory.items told.items) }
+    ensures { IfOk result (λ told. TellsClean (Rendering.Record form) manner.now text.now (contents program.now) (get nat_cmp wraps.now) whole.now.entries.items whole.now.memory.items told.items) }
 {
     let memory = memory_value(alloc, program.mems.as_slice(), whole.memory.as_slice())?;
     let digest = digest_of_run(alloc, &whole.entries, most_pairs(manner.extent))?;
@@ -166,6 +219,7 @@ fn clean_record(
         manner.file,
         text,
         program,
+        wraps,
         &digest,
     )
 }
@@ -176,15 +230,18 @@ fn explain_clean(
     manner: &Manner<'_>,
     text: &[u8],
     program: &Program<Global>,
+    wraps: &Wraps,
     whole: &Whole,
 ) -> Result<Vec<u8>, AllocError>
     requires judged { (shape : Shape) × IsJudged shape (reverse whole.now.entries.items) }
     requires few { length whole.now.entries.items ≤ most_entries }
-    ensures { IfOk result (λ told. TellsClean manner.now.rendering manner.now text.now (contents program.now) whole.now.entries.items whole.now.memory.items told.items) }
+    ensures { IfOk result (λ told. TellsClean manner.now.rendering manner.now text.now (contents program.now) (get nat_cmp wraps.now) whole.now.entries.items whole.now.memory.items told.items) }
 {
     match manner.rendering {
         Rendering::Text => clean_text_told(alloc, program, whole.memory.as_slice()),
-        Rendering::Record(form) => clean_record(alloc, form, manner, text, program, whole),
+        Rendering::Record(form) => {
+            clean_record(alloc, form, manner, text, program, wraps, whole)
+        }
     }
 }
 
@@ -194,12 +251,13 @@ fn races_told(
     manner: &Manner<'_>,
     text: &[u8],
     program: &Program<Global>,
+    wraps: &Wraps,
     digest: &Digest,
 ) -> Result<Vec<u8>, AllocError>
     requires digest { (entries : List AnyEntry) × IsDigest entries digest.now }
     requires most { most_of digest.now ≡ most_pairs manner.now.extent }
     ensures { IfOk result (λ told. (entries : List AnyEntry) → IsDigest entries digest.now →
-        TellsRaces manner.now.rendering manner.now text.now (contents program.now) entries told.items) }
+        TellsRaces manner.now.rendering manner.now text.now (contents program.now) (get nat_cmp wraps.now) entries told.items) }
 {
     match manner.rendering {
         Rendering::Text => explanation(
@@ -220,6 +278,7 @@ fn races_told(
             manner.file,
             text,
             program,
+            wraps,
             digest,
         ),
     }
@@ -233,7 +292,7 @@ fn push_cut(told: &mut Vec<u8>, count: usize) -> Result<(), AllocError>
     push_words(told, cut_behind())
 }
 
-/// What is told of a finished run.
+/// What is told of a finished run, with the warnings of its program.
 fn explain_whole(
     alloc: Global,
     manner: &Manner<'_>,
@@ -249,12 +308,15 @@ fn explain_whole(
     requires limit { limit ≤ most_entries }
     ensures { IfOk result (λ told. TellsEnd manner.now text.now (contents program.now) limit told.0.items told.1) }
 {
+    let wraps = wraps_of(alloc, program, &whole.entries)?;
     if whole.clean {
-        let told = explain_clean(alloc, manner, text, program, whole)?;
+        let run = explain_clean(alloc, manner, text, program, &wraps, whole)?;
+        let told = behind_warnings(alloc, manner, text, program, &wraps, run)?;
         return Ok((told, End::Clean));
     }
     let digest = digest_of_run(alloc, &whole.entries, most_pairs(manner.extent))?;
-    let told = races_told(alloc, manner, text, program, &digest)?;
+    let run = races_told(alloc, manner, text, program, &wraps, &digest)?;
+    let told = behind_warnings(alloc, manner, text, program, &wraps, run)?;
     Ok((told, End::Raced))
 }
 
@@ -268,8 +330,8 @@ fn cut_text_told(
 ) -> Result<Vec<u8>, AllocError>
     requires digest { (entries : List AnyEntry) × IsDigest entries digest.now }
     requires most { most_of digest.now ≡ most_pairs manner.now.extent }
-    ensures { IfOk result (λ told. (entries : List AnyEntry) → IsDigest entries digest.now →
-        TellsCut Rendering.Text manner.now text.now (contents program.now) entries told.items) }
+    ensures { IfOk result (λ told. (wraps : ℕ → Option ℕ) (entries : List AnyEntry) → IsDigest entries digest.now →
+        TellsCut Rendering.Text manner.now text.now (contents program.now) wraps entries told.items) }
 {
     let mut told = explanation(
         alloc,
@@ -290,12 +352,13 @@ fn limit_told(
     manner: &Manner<'_>,
     text: &[u8],
     program: &Program<Global>,
+    wraps: &Wraps,
     digest: &Digest,
 ) -> Result<Vec<u8>, AllocError>
     requires digest { (entries : List AnyEntry) × IsDigest entries digest.now }
     requires most { most_of digest.now ≡ most_pairs manner.now.extent }
     ensures { IfOk result (λ told. (entries : List AnyEntry) → IsDigest entries digest.now →
-        TellsCut manner.now.rendering manner.now text.now (contents program.now) entries told.items) }
+        TellsCut manner.now.rendering manner.now text.now (contents program.now) (get nat_cmp wraps.now) entries told.items) }
 {
     match manner.rendering {
         Rendering::Text => cut_text_told(alloc, manner, text, program, digest),
@@ -308,27 +371,31 @@ fn limit_told(
             manner.file,
             text,
             program,
+            wraps,
             digest,
         ),
     }
 }
 
-/// What is told of a run that came to the limit and not to its end.
+/// What is told of a run that came to the limit and not to its end, with the warnings of its program.
 fn explain_unfinished(
     alloc: Global,
     manner: &Manner<'_>,
     text: &[u8],
     program: &Program<Global>,
+    wraps: &Wraps,
     entries: &[Entry],
     limit: u32,
 ) -> Result<(Vec<u8>, End), AllocError>
+    requires wraps { AreWraps program.now.functions (shape_in program.now) (reverse entries.now) wraps.now }
     requires run { IsUnfinishedRun program.now.functions (shape_in program.now) (reverse entries.now) }
     requires full { length entries.now ≡ limit }
     requires limit { limit ≤ most_entries }
     ensures { IfOk result (λ told. TellsEnd manner.now text.now (contents program.now) limit told.0.items told.1) }
 {
     let digest = Digest::of(alloc, entries, most_pairs(manner.extent))?;
-    let told = limit_told(alloc, manner, text, program, &digest)?;
+    let run = limit_told(alloc, manner, text, program, wraps, &digest)?;
+    let told = behind_warnings(alloc, manner, text, program, wraps, run)?;
     if refusal_status(entries) == 0 {
         return Ok((told, End::Cut));
     }
@@ -349,15 +416,17 @@ fn explain_cut(
     ensures ok { IfOk result (λ told. TellsEnd manner.now text.now (contents program.now) limit told.0.items told.1) }
     ensures fault { IfErr result (IsRunFault (contents program.now) limit) }
 {
-    let entries = gate.kept_history().to_vec(alloc)?;
+    let kept = gate.kept_history();
+    let entries = kept.to_vec(alloc)?;
     let entries = entries.as_slice();
     if entries.len() != limit as usize {
         return Err(CliFault::Limit);
     }
     match outcome_of(alloc, program, entries)? {
-        Outcome::Unfinished => Ok(explain_unfinished(
-            alloc, manner, text, program, entries, limit,
-        )?),
+        Outcome::Unfinished => {
+            let wraps = wraps_of(alloc, program, kept)?;
+            Ok(explain_unfinished(alloc, manner, text, program, &wraps, entries, limit)?)
+        }
         _ => Err(CliFault::Limit),
     }
 }
@@ -382,7 +451,7 @@ fn explain_run<D: Door + Sync, R: Threads + Wait + Sync>(
     let ran = if is_serial {
         serial_run(alloc, program, limit)
     } else {
-        some_run::<Brand, D, R>(rt, alloc, program, workers, door, limit, Blank::new(PARTS))
+        some_run::<Brand, Global, D, R>(rt, alloc, program, workers, door, limit, Blank::new(PARTS))
     };
     let cut = match ran {
         Ok(whole) => return Ok(explain_whole(alloc, manner, text, program, &whole, limit)?),
@@ -413,26 +482,6 @@ pub(crate) fn faults_told(
     }
 }
 
-/// What is told of a run of a program to a person, behind the warnings of the program. A record of the run has these.
-fn behind_warnings(
-    alloc: Global,
-    manner: &Manner<'_>,
-    text: &[u8],
-    program: &Program<Global>,
-    run: Vec<u8>,
-) -> Result<Vec<u8>, AllocError>
-    ensures { IfOk result (λ told. IsBehindWarnings manner.now.rendering manner.now text.now (contents program.now) run.items told.items) }
-{
-    match manner.rendering {
-        Rendering::Text => {
-            let mut told = program_warnings(alloc, manner.is_painted, manner.file, text, program)?;
-            told.extend_from_slice(run.as_slice())?;
-            Ok(told)
-        }
-        Rendering::Record(_) => Ok(run),
-    }
-}
-
 /// What is told of a text that is to mean a program, and the exit status.
 fn explain_program_text<D: Door + Sync, R: Threads + Wait + Sync>(
     rt: &R,
@@ -457,10 +506,9 @@ fn explain_program_text<D: Door + Sync, R: Threads + Wait + Sync>(
             return Ok((told, 2));
         }
     };
-    let (run, end) = explain_run(
+    let (told, end) = explain_run(
         rt, alloc, manner, text, &program, workers, is_serial, door, limit,
     )?;
-    let told = behind_warnings(alloc, manner, text, &program, run)?;
     Ok((told, end.status()))
 }
 
@@ -469,7 +517,7 @@ fn told_of<D: Door + Sync, R: Threads + Wait + Sync>(
     rt: &R,
     alloc: Global,
     manner: &Manner<'_>,
-    text: &[u8],
+    source: &KeptText<Global>,
     workers: usize,
     is_serial: bool,
     door: &D,
@@ -477,13 +525,20 @@ fn told_of<D: Door + Sync, R: Threads + Wait + Sync>(
 ) -> Result<(Vec<u8>, u8), CliFault>
     requires workers { (0 < workers) × (workers ≤ 64) }
     requires limit { limit ≤ most_entries }
-    ensures ok { IfOk result (λ told. Explains manner.now text.now limit told.0.items told.1) }
-    ensures fault { IfErr result (StopsTelling text.now limit) }
+    requires kept { IsKept source.now }
+    ensures ok { IfOk result (λ told. Explains manner.now (text_of source.now) limit told.0.items told.1) }
+    ensures fault { IfErr result (StopsTelling (text_of source.now) limit) }
 {
-    if is_program(text) {
-        explain_program_text(rt, alloc, manner, text, workers, is_serial, door, limit)
-    } else {
-        explain_trace_text(alloc, manner, text)
+    match source {
+        KeptText::Whole(text) => {
+            let text = text.as_slice();
+            if is_program(text) {
+                explain_program_text(rt, alloc, manner, text, workers, is_serial, door, limit)
+            } else {
+                explain_trace_text(alloc, manner, source)
+            }
+        }
+        KeptText::Plain(_) => explain_trace_text(alloc, manner, source),
     }
 }
 
@@ -491,11 +546,12 @@ fn told_of<D: Door + Sync, R: Threads + Wait + Sync>(
 /// before what follows its spawn, and tells a person of the run, in lines of text: each pair of lines that raced, in groups of those that
 /// part at spawns on one line, with both lines, the spawns and calls that led there, the spawn where the two part, and what would order
 /// them: of all pairs, or of the first. Where nothing was refused it tells that this
-/// is so for every schedule, and the memory. Before all this it tells the warnings of the program, as [`program_warnings`] does. Where the
+/// is so for every schedule, and the memory. Before all this it tells the warnings of the program, as [`program_warnings`] does, with the
+/// indexes that wrap in this run. Where the
 /// limit ended the run it tells the races until then, and that it is no whole run. A text whose first word behind its declarations is not
 /// `func` is a trace: its requests are judged in their order, and the pairs that raced are told by its notes, or the first illegal request.
 /// Of a text that means neither it tells the faults that can be told apart, the first of which is that of the other commands. As JSON it
-/// tells the same but for the warnings, as one value. The exit status is 0 where nothing was refused, 1 where something was, 2 for a fault
+/// tells the same as one value. The exit status is 0 where nothing was refused, 1 where something was, 2 for a fault
 /// of the text or an illegal request, and 4 where the limit ended the run and nothing was refused until then.
 ///
 /// It answers [`CliFault::Read`] or [`CliFault::Write`] exactly where the reader or the writer has failed, [`CliFault::TooLong`] for more
@@ -521,23 +577,11 @@ pub fn explain_text<D: Door + Sync, P: Read, W: Write, R: Threads + Wait + Sync>
         (W.contents (held output.old)) (W.contents (held output.new)) limit) }
     ensures fault { IfErr result (HasExplanationCause manner.now (reading (P.remaining (held program.old)) (P.remaining (held program.new)))
         (W.contents (held output.old)) (W.contents (held output.new)) limit) }
-    ensures read_failed { IsErrOf result CliFault.Read ↔ IsTrue (has_failed program.new) }
-    ensures delivered { OnOk result (is_delivered output.new ≡ true) }
-    ensures write_failed { IsErrOf result CliFault.Write ↔ IsTrue (has_failed output.new) }
+    ensures devices { LeavesDevices result (has_failed program.new) output.old output.new }
     ensures reads { IsCalledAtMost most_reads (calls_of program.old) (calls_of program.new) }
-    ensures unwritten { IfErr result (λ fault. fault ≢ CliFault.Write → output.new ≡ output.old) }
 {
-    let text = read_text(alloc, program)?;
-    let (told, status) = told_of(
-        rt,
-        alloc,
-        manner,
-        text.as_slice(),
-        workers,
-        is_serial,
-        door,
-        limit,
-    )?;
+    let source = read_kept(alloc, program)?;
+    let (told, status) = told_of(rt, alloc, manner, &source, workers, is_serial, door, limit)?;
     write_text(output, told.as_slice())?;
     Ok(status)
 }

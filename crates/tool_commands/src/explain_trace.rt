@@ -6,6 +6,7 @@ ghost use Rattle.trace_text.specs.Traces.{contents as trace_contents};
 ghost use Rattle.trace_text.specs.Grammar.{TextMeans as TraceMeans};
 ghost use Rattle.trace_notes.specs.Notes.{AreNotes, kept_runs};
 ghost use Rattle.model_histories.specs.declared.answer.Entry.{Entry};
+ghost use Rattle.command_streams.specs.KeptTexts.{text_of, IsKept, KeepsTrace};
 ghost use Rattle.race_pairs.specs.Digests.{IsDigest, most_of};
 ghost use Rattle.race_explanations.specs.Extents.{most_pairs};
 ghost use Rattle.tool_commands.specs.Outcomes.{refusal_status};
@@ -20,7 +21,7 @@ use crate::clean::clean_count;
 use crate::explain::{Manner, Rendering, faults_told};
 use crate::judged::digest_of_trace;
 use crate::replay::fault_of_request;
-use command_streams::CliFault;
+use command_streams::{CliFault, KeptText};
 use fault_lists::Fault;
 use memchr::memchr;
 use race_explanations::{
@@ -154,6 +155,20 @@ pub(crate) fn notes_of<A: Allocator + Copy>(alloc: A, text: &[u8]) -> Result<Not
     Ok(notes)
 }
 
+/// The notes of a text that is kept. Plain lines of requests are none.
+pub(crate) fn notes_of_kept(
+    alloc: Global,
+    source: &KeptText<Global>,
+) -> Result<Notes<Global>, AllocError>
+    requires { IsKept source.now }
+    ensures { IfOk result (AreNotes (lines (text_of source.now))) }
+{
+    match source {
+        KeptText::Whole(text) => notes_of(alloc, text.as_slice()),
+        KeptText::Plain(kept) => notes_of(alloc, kept.head.as_slice()),
+    }
+}
+
 /// What is told of an illegal request.
 fn illegal_told(
     alloc: Global,
@@ -182,7 +197,7 @@ fn illegal_told(
 }
 
 /// What is told of the first request that a gate does not answer: why it is illegal. The fault of a command for one that is not illegal.
-pub(crate) fn explain_stop(
+fn explain_stop(
     alloc: Global,
     manner: &Manner<'_>,
     text: &[u8],
@@ -202,6 +217,29 @@ pub(crate) fn explain_stop(
             Ok(told)
         }
         None => Err(fault_of_request(stop.number, stop.fault)),
+    }
+}
+
+/// The same of a text that is kept, which stands as a whole then.
+pub(crate) fn explain_kept_stop(
+    alloc: Global,
+    manner: &Manner<'_>,
+    source: &KeptText<Global>,
+    trace: &Trace<Global>,
+    gate: &Gate<Global>,
+    stop: Stop,
+) -> Result<Vec<u8>, CliFault>
+    requires means { KeepsTrace source.now (trace_contents trace.now) }
+    requires stops { StopsAt (trace_contents trace.now) gate.now stop }
+    ensures ok { IfOk result (λ told. IsIllegalTold manner.now (text_of source.now) told.items 2) }
+    ensures fault { IfErr result (λ fault. (fault ≡ CliFault.Memory) ⊎ StopsGate (trace_contents trace.now) fault) }
+{
+    match source {
+        KeptText::Whole(text) => explain_stop(alloc, manner, text.as_slice(), trace, gate, stop),
+        KeptText::Plain(kept) => {
+            let text = kept.to_text(alloc)?;
+            explain_stop(alloc, manner, text.as_slice(), trace, gate, stop)
+        }
     }
 }
 
@@ -248,16 +286,16 @@ fn verdict_told(
 fn explain_judged(
     alloc: Global,
     manner: &Manner<'_>,
-    text: &[u8],
+    source: &KeptText<Global>,
     trace: &Trace<Global>,
     digest: &Digest,
 ) -> Result<(Vec<u8>, u8), AllocError>
-    requires means { TraceMeans text.now (trace_contents trace.now) }
+    requires means { KeepsTrace source.now (trace_contents trace.now) }
     requires digested { IsDigested (trace_contents trace.now) digest.now }
     requires most { most_of digest.now ≡ most_pairs manner.now.extent }
-    ensures { IfOk result (λ told. IsTraceTold manner.now text.now told.0.items told.1) }
+    ensures { IfOk result (λ told. IsTraceTold manner.now (text_of source.now) told.0.items told.1) }
 {
-    let notes = notes_of(alloc, text)?;
+    let notes = notes_of_kept(alloc, source)?;
     let told = verdict_told(alloc, manner, &notes, trace, digest)?;
     Ok((told, status_of(digest)))
 }
@@ -280,16 +318,16 @@ pub(crate) fn digest_of_gate(
 /// What a person is told of a trace that a text means, in which nothing is refused among so many requests.
 fn explain_clean_trace(
     alloc: Global,
-    text: &[u8],
+    source: &KeptText<Global>,
     trace: &Trace<Global>,
     count: usize,
 ) -> Result<Vec<u8>, AllocError>
-    requires means { TraceMeans text.now (trace_contents trace.now) }
+    requires means { KeepsTrace source.now (trace_contents trace.now) }
     requires clean { IsAllClean (trace_contents trace.now) count }
-    ensures { IfOk result (λ told. (manner : SpecManner) → manner.rendering ≡ Rendering.Text → IsTraceTold manner text.now told.items 0) }
+    ensures { IfOk result (λ told. (manner : SpecManner) → manner.rendering ≡ Rendering.Text → IsTraceTold manner (text_of source.now) told.items 0) }
 {
     let _trace = trace;
-    let notes = notes_of(alloc, text)?;
+    let notes = notes_of_kept(alloc, source)?;
     let mut told = explain_clean(alloc, count)?;
     push_recorded(&mut told, &notes)?;
     Ok(told)
@@ -299,21 +337,21 @@ fn explain_clean_trace(
 fn explain_history(
     alloc: Global,
     manner: &Manner<'_>,
-    text: &[u8],
+    source: &KeptText<Global>,
     trace: &Trace<Global>,
 ) -> Result<(Vec<u8>, u8), CliFault>
-    requires { TraceMeans text.now (trace_contents trace.now) }
-    ensures ok { IfOk result (λ told. IsTraceTold manner.now text.now told.0.items told.1 ⊎ IsUnjudgedTold manner.now text.now told.0.items told.1) }
+    requires { KeepsTrace source.now (trace_contents trace.now) }
+    ensures ok { IfOk result (λ told. IsTraceTold manner.now (text_of source.now) told.0.items told.1 ⊎ IsUnjudgedTold manner.now (text_of source.now) told.0.items told.1) }
     ensures fault { IfErr result (λ fault. (fault ≡ CliFault.Memory) ⊎ StopsGate (trace_contents trace.now) fault) }
 {
     let (gate, stop) = ask_all(alloc, trace)?;
     match stop {
         None => {
             let digest = digest_of_gate(alloc, trace, &gate, most_pairs(manner.extent))?;
-            Ok(explain_judged(alloc, manner, text, trace, &digest)?)
+            Ok(explain_judged(alloc, manner, source, trace, &digest)?)
         }
         Some(stop) => {
-            let told = explain_stop(alloc, manner, text, trace, &gate, stop)?;
+            let told = explain_kept_stop(alloc, manner, source, trace, &gate, stop)?;
             Ok((told, 2))
         }
     }
@@ -323,16 +361,16 @@ fn explain_history(
 fn digest_told(
     alloc: Global,
     manner: &Manner<'_>,
-    text: &[u8],
+    source: &KeptText<Global>,
     trace: &Trace<Global>,
 ) -> Result<(Vec<u8>, u8), CliFault>
-    requires { TraceMeans text.now (trace_contents trace.now) }
-    ensures ok { IfOk result (λ told. IsTraceTold manner.now text.now told.0.items told.1 ⊎ IsUnjudgedTold manner.now text.now told.0.items told.1) }
+    requires { KeepsTrace source.now (trace_contents trace.now) }
+    ensures ok { IfOk result (λ told. IsTraceTold manner.now (text_of source.now) told.0.items told.1 ⊎ IsUnjudgedTold manner.now (text_of source.now) told.0.items told.1) }
     ensures fault { IfErr result (λ fault. (fault ≡ CliFault.Memory) ⊎ StopsGate (trace_contents trace.now) fault) }
 {
     match digest_of_trace(alloc, trace, most_pairs(manner.extent))? {
-        Some(digest) => Ok(explain_judged(alloc, manner, text, trace, &digest)?),
-        None => explain_history(alloc, manner, text, trace),
+        Some(digest) => Ok(explain_judged(alloc, manner, source, trace, &digest)?),
+        None => explain_history(alloc, manner, source, trace),
     }
 }
 
@@ -341,20 +379,20 @@ fn digest_told(
 fn trace_text_by(
     alloc: Global,
     manner: &Manner<'_>,
-    text: &[u8],
+    source: &KeptText<Global>,
     trace: &Trace<Global>,
 ) -> Result<(Vec<u8>, u8), CliFault>
-    requires means { TraceMeans text.now (trace_contents trace.now) }
+    requires means { KeepsTrace source.now (trace_contents trace.now) }
     requires rendering { manner.now.rendering ≡ Rendering.Text }
-    ensures ok { IfOk result (λ told. IsTraceTold manner.now text.now told.0.items told.1 ⊎ IsUnjudgedTold manner.now text.now told.0.items told.1) }
+    ensures ok { IfOk result (λ told. IsTraceTold manner.now (text_of source.now) told.0.items told.1 ⊎ IsUnjudgedTold manner.now (text_of source.now) told.0.items told.1) }
     ensures fault { IfErr result (λ fault. (fault ≡ CliFault.Memory) ⊎ StopsGate (trace_contents trace.now) fault) }
 {
     match clean_count(alloc, trace)? {
         Some(count) => {
-            let told = explain_clean_trace(alloc, text, trace, count)?;
+            let told = explain_clean_trace(alloc, source, trace, count)?;
             Ok((told, 0))
         }
-        None => digest_told(alloc, manner, text, trace),
+        None => digest_told(alloc, manner, source, trace),
     }
 }
 
@@ -362,16 +400,38 @@ fn trace_text_by(
 fn explain_trace(
     alloc: Global,
     manner: &Manner<'_>,
-    text: &[u8],
+    source: &KeptText<Global>,
     trace: &Trace<Global>,
 ) -> Result<(Vec<u8>, u8), CliFault>
-    requires { TraceMeans text.now (trace_contents trace.now) }
-    ensures ok { IfOk result (λ told. IsTraceTold manner.now text.now told.0.items told.1 ⊎ IsUnjudgedTold manner.now text.now told.0.items told.1) }
+    requires { KeepsTrace source.now (trace_contents trace.now) }
+    ensures ok { IfOk result (λ told. IsTraceTold manner.now (text_of source.now) told.0.items told.1 ⊎ IsUnjudgedTold manner.now (text_of source.now) told.0.items told.1) }
     ensures fault { IfErr result (λ fault. (fault ≡ CliFault.Memory) ⊎ StopsGate (trace_contents trace.now) fault) }
 {
     match manner.rendering {
-        Rendering::Text => trace_text_by(alloc, manner, text, trace),
-        Rendering::Record(_) => digest_told(alloc, manner, text, trace),
+        Rendering::Text => trace_text_by(alloc, manner, source, trace),
+        Rendering::Record(_) => digest_told(alloc, manner, source, trace),
+    }
+}
+
+/// What is told of a text that stands as a whole and is to mean a trace, and the exit status.
+fn explain_whole_text(
+    alloc: Global,
+    manner: &Manner<'_>,
+    source: &KeptText<Global>,
+    text: &[u8],
+) -> Result<(Vec<u8>, u8), CliFault>
+    requires whole { text_of source.now ≡ text.now }
+    requires kept { IsKept source.now }
+    ensures ok { IfOk result (λ told. IsTraceTold manner.now text.now told.0.items told.1 ⊎ IsUnjudgedTold manner.now text.now told.0.items told.1) }
+    ensures fault { IfErr result (λ fault. (fault ≡ CliFault.Memory) ⊎ IsUntoldTrace text.now fault) }
+{
+    match Trace::parse(alloc, text) {
+        Ok(trace) => explain_trace(alloc, manner, source, &trace),
+        Err(TextFault::Memory) => Err(CliFault::Memory),
+        Err(TextFault::At { line, why }) => {
+            let told = faults_told(alloc, manner, text, Meant::Trace, Fault { line, why })?;
+            Ok((told, 2))
+        }
     }
 }
 
@@ -380,17 +440,14 @@ fn explain_trace(
 pub(crate) fn explain_trace_text(
     alloc: Global,
     manner: &Manner<'_>,
-    text: &[u8],
+    source: &KeptText<Global>,
 ) -> Result<(Vec<u8>, u8), CliFault>
-    ensures ok { IfOk result (λ told. IsTraceTold manner.now text.now told.0.items told.1 ⊎ IsUnjudgedTold manner.now text.now told.0.items told.1) }
-    ensures fault { IfErr result (λ fault. (fault ≡ CliFault.Memory) ⊎ IsUntoldTrace text.now fault) }
+    requires { IsKept source.now }
+    ensures ok { IfOk result (λ told. IsTraceTold manner.now (text_of source.now) told.0.items told.1 ⊎ IsUnjudgedTold manner.now (text_of source.now) told.0.items told.1) }
+    ensures fault { IfErr result (λ fault. (fault ≡ CliFault.Memory) ⊎ IsUntoldTrace (text_of source.now) fault) }
 {
-    match Trace::parse(alloc, text) {
-        Ok(trace) => explain_trace(alloc, manner, text, &trace),
-        Err(TextFault::Memory) => Err(CliFault::Memory),
-        Err(TextFault::At { line, why }) => {
-            let told = faults_told(alloc, manner, text, Meant::Trace, Fault { line, why })?;
-            Ok((told, 2))
-        }
+    match source {
+        KeptText::Whole(text) => explain_whole_text(alloc, manner, source, text.as_slice()),
+        KeptText::Plain(kept) => explain_trace(alloc, manner, source, &kept.trace),
     }
 }

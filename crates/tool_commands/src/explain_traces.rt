@@ -4,10 +4,10 @@ ghost use Rattle.std.specs.Prelude.{◌≡◌, ◌↔◌, ◌⊎◌, ◌==◌, �
 ghost use Rattle.std.specs.List.{list_any};
 ghost use Rattle.std.specs.Str.{bytes_eq};
 ghost use Rattle.trace_text.specs.Traces.{contents as trace_contents};
-ghost use Rattle.trace_text.specs.Grammar.{TextMeans as TraceMeans};
 ghost use Rattle.trace_notes.specs.Notes.{kept_runs};
 ghost use Rattle.command_streams.specs.Watched.{held, has_failed};
 ghost use Rattle.command_streams.specs.Readings.{reading};
+ghost use Rattle.command_streams.specs.KeptTexts.{text_of, IsKept, KeepsTrace};
 ghost use Rattle.tool_commands.specs.Digested.{IsDigested};
 ghost use Rattle.tool_commands.specs.Replays.{StopsGate};
 ghost use Rattle.tool_commands.specs.Explanations.{IsUntoldTrace, recorded_line};
@@ -19,9 +19,9 @@ ghost use Rattle.tool_commands.specs.Together.{AddsText, TakesText, TakesReading
 
 use crate::ask::ask_all;
 use crate::explain::{Manner, Rendering, faults_told};
-use crate::explain_trace::{digest_of_gate, explain_stop, notes_of, push_run};
+use crate::explain_trace::{digest_of_gate, explain_kept_stop, notes_of_kept, push_run};
 use crate::judged::digest_of_trace;
-use command_streams::{CliFault, Watched, read_text};
+use command_streams::{CliFault, KeptText, Watched, read_kept};
 use fault_lists::Fault;
 use race_explanations::{Extent, Findings, most_pairs};
 use race_pairs::Digest;
@@ -151,16 +151,16 @@ impl Traces {
         &mut self,
         alloc: Global,
         manner: &Manner<'_>,
-        text: &[u8],
+        source: &KeptText<Global>,
         trace: &Trace<Global>,
         digest: &Digest,
     ) -> Result<(), AllocError>
-        requires means { TraceMeans text.now (trace_contents trace.now) }
+        requires means { KeepsTrace source.now (trace_contents trace.now) }
         requires digested { IsDigested (trace_contents trace.now) digest.now }
         requires most { most_of digest.now ≡ most_pairs manner.now.extent }
-        ensures { OnOk result (AddsText manner.now text.now (together_of self.old) (together_of self.new)) }
+        ensures { OnOk result (AddsText manner.now (text_of source.now) (together_of self.old) (together_of self.new)) }
     {
-        let notes = notes_of(alloc, text)?;
+        let notes = notes_of_kept(alloc, source)?;
         self.add_entries(alloc, manner, &notes, trace, digest)?;
         keep_runs(alloc, &mut self.runs, &notes)?;
         Ok(())
@@ -171,21 +171,21 @@ impl Traces {
         &mut self,
         alloc: Global,
         manner: &Manner<'_>,
-        text: &[u8],
+        source: &KeptText<Global>,
         trace: &Trace<Global>,
     ) -> Result<Option<Vec<u8>>, CliFault>
-        requires { TraceMeans text.now (trace_contents trace.now) }
-        ensures ok { IfOk result (TakesText manner.now text.now (together_of self.old) (together_of self.new)) }
+        requires { KeepsTrace source.now (trace_contents trace.now) }
+        ensures ok { IfOk result (TakesText manner.now (text_of source.now) (together_of self.old) (together_of self.new)) }
         ensures fault { IfErr result (λ fault. (fault ≡ CliFault.Memory) ⊎ StopsGate (trace_contents trace.now) fault) }
     {
         let (gate, stop) = ask_all(alloc, trace)?;
         match stop {
             None => {
                 let digest = digest_of_gate(alloc, trace, &gate, most_pairs(manner.extent))?;
-                self.add(alloc, manner, text, trace, &digest)?;
+                self.add(alloc, manner, source, trace, &digest)?;
                 Ok(None)
             }
-            Some(stop) => Ok(Some(explain_stop(alloc, manner, text, trace, &gate, stop)?)),
+            Some(stop) => Ok(Some(explain_kept_stop(alloc, manner, source, trace, &gate, stop)?)),
         }
     }
 
@@ -194,34 +194,37 @@ impl Traces {
         &mut self,
         alloc: Global,
         manner: &Manner<'_>,
-        text: &[u8],
+        source: &KeptText<Global>,
         trace: &Trace<Global>,
     ) -> Result<Option<Vec<u8>>, CliFault>
-        requires { TraceMeans text.now (trace_contents trace.now) }
-        ensures ok { IfOk result (TakesText manner.now text.now (together_of self.old) (together_of self.new)) }
+        requires { KeepsTrace source.now (trace_contents trace.now) }
+        ensures ok { IfOk result (TakesText manner.now (text_of source.now) (together_of self.old) (together_of self.new)) }
         ensures fault { IfErr result (λ fault. (fault ≡ CliFault.Memory) ⊎ StopsGate (trace_contents trace.now) fault) }
     {
         match digest_of_trace(alloc, trace, most_pairs(manner.extent))? {
             Some(digest) => {
-                self.add(alloc, manner, text, trace, &digest)?;
+                self.add(alloc, manner, source, trace, &digest)?;
                 Ok(None)
             }
-            None => self.take_history(alloc, manner, text, trace),
+            None => self.take_history(alloc, manner, source, trace),
         }
     }
 
-    /// Adds the trace that a text means, or tells its first illegal request, or the faults of a text that means none.
-    fn take_text(
+    /// Adds the trace that a text means which stands as a whole, or tells its first illegal request, or the faults of a text that means none.
+    fn take_whole(
         &mut self,
         alloc: Global,
         manner: &Manner<'_>,
+        source: &KeptText<Global>,
         text: &[u8],
     ) -> Result<Option<Vec<u8>>, CliFault>
+        requires whole { text_of source.now ≡ text.now }
+        requires kept { IsKept source.now }
         ensures ok { IfOk result (TakesText manner.now text.now (together_of self.old) (together_of self.new)) }
         ensures fault { IfErr result (λ fault. (fault ≡ CliFault.Memory) ⊎ IsUntoldTrace text.now fault) }
     {
         match Trace::parse(alloc, text) {
-            Ok(trace) => self.take_trace(alloc, manner, text, &trace),
+            Ok(trace) => self.take_trace(alloc, manner, source, &trace),
             Err(TextFault::Memory) => Err(CliFault::Memory),
             Err(TextFault::At { line, why }) => Ok(Some(faults_told(
                 alloc,
@@ -230,6 +233,23 @@ impl Traces {
                 Meant::Trace,
                 Fault { line, why },
             )?)),
+        }
+    }
+
+    /// Adds the trace that a text means, or tells its first illegal request, or the faults of a text that means none.
+    fn take_text(
+        &mut self,
+        alloc: Global,
+        manner: &Manner<'_>,
+        source: &KeptText<Global>,
+    ) -> Result<Option<Vec<u8>>, CliFault>
+        requires { IsKept source.now }
+        ensures ok { IfOk result (TakesText manner.now (text_of source.now) (together_of self.old) (together_of self.new)) }
+        ensures fault { IfErr result (λ fault. (fault ≡ CliFault.Memory) ⊎ IsUntoldTrace (text_of source.now) fault) }
+    {
+        match source {
+            KeptText::Whole(text) => self.take_whole(alloc, manner, source, text.as_slice()),
+            KeptText::Plain(kept) => self.take_trace(alloc, manner, source, &kept.trace),
         }
     }
 
@@ -250,8 +270,8 @@ impl Traces {
         ensures read_failed { IsErrOf result CliFault.Read ↔ IsTrue (has_failed trace.new) }
         ensures not_write { IsErrOf result CliFault.Write → ⊥ }
     {
-        let text = read_text(alloc, trace)?;
-        self.take_text(alloc, manner, text.as_slice())
+        let source = read_kept(alloc, trace)?;
+        self.take_text(alloc, manner, &source)
     }
 
     /// The exit status: 0 where nothing was refused, else 1.

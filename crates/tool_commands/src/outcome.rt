@@ -27,9 +27,9 @@ pub(crate) enum Outcome {
 }
 
 /// Replays entries, the oldest first. It fails for want of memory alone.
-pub(crate) fn outcome_of<A: Allocator + Copy>(
+pub(crate) fn outcome_of<A: Allocator + Copy, B: Allocator>(
     alloc: A,
-    program: &Program<A>,
+    program: &Program<B>,
     entries: &[Entry],
 ) -> Result<Outcome, CliFault>
     ensures so { IfOk result (IsSo program.now.functions (shape_in program.now) entries.now) }
@@ -80,7 +80,7 @@ pub(crate) fn refusal_status(entries: &[Entry]) -> u8
 }
 
 /// As [`refusal_status`], of a run of which it is known whether something was refused, so that no entry is looked at.
-pub(crate) fn whole_status(whole: &Whole) -> u8
+pub(crate) fn whole_status<A: Allocator>(whole: &Whole<A>) -> u8
     requires { IsTrue whole.now.clean ↔ IsClean (reverse whole.now.entries.items) }
     ensures { result ≡ status_of_run whole.now.entries.items }
 {

@@ -1,14 +1,15 @@
 //! From a job to the exit status of the process.
 
-ghost use Rattle.std.specs.Prelude.{◌≡◌, ◌↔◌, ◌<◌, ◌≤◌, ◌≢◌, Some, None, true, false, IfOk, IfErr, OnOk, IsErr, IsErrOf, IsTrue};
+ghost use Rattle.std.specs.Prelude.{◌≡◌, ◌↔◌, ◌<◌, ◌≤◌, Some, None, true, false, IfOk, IfErr, OnOk, IsErr, IsErrOf, IsTrue};
 ghost use Rattle.model_histories.specs.Shapes.{most_entries};
 ghost use Rattle.std.specs.String.{string_bytes};
 ghost use Rattle.std.specs.Io.KnownBytes.{Appends};
 ghost use Rattle.command_words.specs.Jobs.{IsInRange};
 ghost use Rattle.command_streams.specs.Streams.{StopsWriting};
+ghost use Rattle.command_streams.specs.Devices.{LeavesDevices};
 ghost use Rattle.command_streams.specs.Watched.{held, has_failed, is_delivered};
-ghost use Rattle.tool_commands.specs.Performed.{form_of, rendering_of, extent_of, IsPerformed, IsPaintedBy, HasJobCause, IsRecorded};
-ghost use Rattle.tool_commands.specs.Performed.{IsRecordedFirst, BarsTrace, LacksFile, IsAlone, status_of_answer};
+ghost use Rattle.tool_commands.specs.Performed.{form_of, rendering_of, extent_of, EndsJob, IsPaintedBy, IsRecorded};
+ghost use Rattle.tool_commands.specs.Performed.{IsRecordedFirst, BarsTrace, IsAlone, status_of_answer};
 
 use crate::draw::draw_text;
 use crate::elide::elide_text;
@@ -42,14 +43,9 @@ fn judge_input<H: Host, W: Write>(
     requires host { has_failed host.old ≡ false }
     requires writer { has_failed output.old ≡ false }
     requires limit { limit ≤ most_entries }
-    ensures done { IfOk result (IsPerformed (H.sources (held host.old)) (Job.Judge None limit)
-        (W.contents (held output.old)) (W.contents (held output.new))) }
-    ensures fault { IfErr result (HasJobCause (H.sources (held host.old)) (Job.Judge None limit)
-        (W.contents (held output.old)) (W.contents (held output.new))) }
-    ensures delivered { OnOk result (is_delivered output.new ≡ true) }
-    ensures read_failed { IsErrOf result CliFault.Read ↔ IsTrue (has_failed host.new) }
-    ensures write_failed { IsErrOf result CliFault.Write ↔ IsTrue (has_failed output.new) }
-    ensures unwritten { IfErr result (λ fault. fault ≢ CliFault.Write → output.new ≡ output.old) }
+    ensures job { EndsJob (H.sources (held host.old)) (H.lacks (held host.old)) (Job.Judge None limit)
+        (W.contents (held output.old)) (W.contents (held output.new)) result }
+    ensures devices { LeavesDevices result (has_failed host.new) output.old output.new }
 {
     let mut input = host.input();
     let answer = judge_stream(alloc, &mut input, output, limit);
@@ -68,15 +64,9 @@ fn judge_file<H: Host, W: Write>(
     requires host { has_failed host.old ≡ false }
     requires writer { has_failed output.old ≡ false }
     requires limit { limit ≤ most_entries }
-    ensures done { IfOk result (IsPerformed (H.sources (held host.old)) (Job.Judge (Some file.now) limit)
-        (W.contents (held output.old)) (W.contents (held output.new))) }
-    ensures fault { IfErr result (HasJobCause (H.sources (held host.old)) (Job.Judge (Some file.now) limit)
-        (W.contents (held output.old)) (W.contents (held output.new))) }
-    ensures delivered { OnOk result (is_delivered output.new ≡ true) }
-    ensures read_failed { IsErrOf result CliFault.Read ↔ IsTrue (has_failed host.new) }
-    ensures write_failed { IsErrOf result CliFault.Write ↔ IsTrue (has_failed output.new) }
-    ensures unwritten { IfErr result (λ fault. fault ≢ CliFault.Write → output.new ≡ output.old) }
-    ensures lacking { LacksFile (H.lacks (held host.old)) (Job.Judge (Some file.now) limit) → IsErrOf result CliFault.Read }
+    ensures job { EndsJob (H.sources (held host.old)) (H.lacks (held host.old)) (Job.Judge (Some file.now) limit)
+        (W.contents (held output.old)) (W.contents (held output.new)) result }
+    ensures devices { LeavesDevices result (has_failed host.new) output.old output.new }
 {
     let mut trace = open_named(host, file.as_str())?;
     let answer = judge_stream(alloc, &mut trace, output, limit);
@@ -95,15 +85,9 @@ fn elide_file<H: Host, W: Write>(
     requires host { has_failed host.old ≡ false }
     requires writer { has_failed output.old ≡ false }
     requires limit { limit ≤ most_entries }
-    ensures done { IfOk result (IsPerformed (H.sources (held host.old)) (Job.Elide file.now limit)
-        (W.contents (held output.old)) (W.contents (held output.new))) }
-    ensures fault { IfErr result (HasJobCause (H.sources (held host.old)) (Job.Elide file.now limit)
-        (W.contents (held output.old)) (W.contents (held output.new))) }
-    ensures delivered { OnOk result (is_delivered output.new ≡ true) }
-    ensures read_failed { IsErrOf result CliFault.Read ↔ IsTrue (has_failed host.new) }
-    ensures write_failed { IsErrOf result CliFault.Write ↔ IsTrue (has_failed output.new) }
-    ensures unwritten { IfErr result (λ fault. fault ≢ CliFault.Write → output.new ≡ output.old) }
-    ensures lacking { LacksFile (H.lacks (held host.old)) (Job.Elide file.now limit) → IsErrOf result CliFault.Read }
+    ensures job { EndsJob (H.sources (held host.old)) (H.lacks (held host.old)) (Job.Elide file.now limit)
+        (W.contents (held output.old)) (W.contents (held output.new)) result }
+    ensures devices { LeavesDevices result (has_failed host.new) output.old output.new }
 {
     let mut program = open_named(host, file.as_str())?;
     let answer = elide_text(alloc, &mut program, output, limit);
@@ -125,19 +109,14 @@ fn run_file<H: Host, W: Write, R: Threads + Wait + Sync>(
     requires writer { has_failed output.old ≡ false }
     requires workers { (0 < workers) × (workers ≤ 64) }
     requires limit { limit ≤ most_entries }
-    ensures done { IfOk result (IsPerformed (H.sources (held host.old)) (Job.Run file.now workers limit)
-        (W.contents (held output.old)) (W.contents (held output.new))) }
-    ensures fault { IfErr result (HasJobCause (H.sources (held host.old)) (Job.Run file.now workers limit)
-        (W.contents (held output.old)) (W.contents (held output.new))) }
-    ensures delivered { OnOk result (is_delivered output.new ≡ true) }
-    ensures read_failed { IsErrOf result CliFault.Read ↔ IsTrue (has_failed host.new) }
-    ensures write_failed { IsErrOf result CliFault.Write ↔ IsTrue (has_failed output.new) }
-    ensures unwritten { IfErr result (λ fault. fault ≢ CliFault.Write → output.new ≡ output.old) }
-    ensures lacking { LacksFile (H.lacks (held host.old)) (Job.Run file.now workers limit) → IsErrOf result CliFault.Read }
+    ensures job { EndsJob (H.sources (held host.old)) (H.lacks (held host.old)) (Job.Run file.now workers limit)
+        (W.contents (held output.old)) (W.contents (held output.new)) result }
+    ensures devices { LeavesDevices result (has_failed host.new) output.old output.new }
 {
     let mut program = open_named(host, file.as_str())?;
     let answer = run_text(
         threads,
+        alloc,
         alloc,
         &mut program,
         workers,
@@ -163,15 +142,9 @@ fn trace_file<H: Host, W: Write, R: Threads + Wait + Sync>(
     requires writer { has_failed output.old ≡ false }
     requires workers { (0 < workers) × (workers ≤ 64) }
     requires limit { limit ≤ most_entries }
-    ensures done { IfOk result (IsPerformed (H.sources (held host.old)) (Job.Trace file.now workers limit)
-        (W.contents (held output.old)) (W.contents (held output.new))) }
-    ensures fault { IfErr result (HasJobCause (H.sources (held host.old)) (Job.Trace file.now workers limit)
-        (W.contents (held output.old)) (W.contents (held output.new))) }
-    ensures delivered { OnOk result (is_delivered output.new ≡ true) }
-    ensures read_failed { IsErrOf result CliFault.Read ↔ IsTrue (has_failed host.new) }
-    ensures write_failed { IsErrOf result CliFault.Write ↔ IsTrue (has_failed output.new) }
-    ensures unwritten { IfErr result (λ fault. fault ≢ CliFault.Write → output.new ≡ output.old) }
-    ensures lacking { LacksFile (H.lacks (held host.old)) (Job.Trace file.now workers limit) → IsErrOf result CliFault.Read }
+    ensures job { EndsJob (H.sources (held host.old)) (H.lacks (held host.old)) (Job.Trace file.now workers limit)
+        (W.contents (held output.old)) (W.contents (held output.new)) result }
+    ensures devices { LeavesDevices result (has_failed host.new) output.old output.new }
 {
     let mut program = open_named(host, file.as_str())?;
     let answer = write_run_trace(
@@ -234,15 +207,9 @@ fn explain_file<H: Host, W: Write, R: Threads + Wait + Sync>(
     requires writer { has_failed output.old ≡ false }
     requires workers { (0 < workers) × (workers ≤ 64) }
     requires limit { limit ≤ most_entries }
-    ensures done { IfOk result (IsPerformed (H.sources (held host.old)) (Job.Explain file.now workers is_serial limit color format is_all)
-        (W.contents (held output.old)) (W.contents (held output.new))) }
-    ensures fault { IfErr result (HasJobCause (H.sources (held host.old)) (Job.Explain file.now workers is_serial limit color format is_all)
-        (W.contents (held output.old)) (W.contents (held output.new))) }
-    ensures delivered { OnOk result (is_delivered output.new ≡ true) }
-    ensures read_failed { IsErrOf result CliFault.Read ↔ IsTrue (has_failed host.new) }
-    ensures write_failed { IsErrOf result CliFault.Write ↔ IsTrue (has_failed output.new) }
-    ensures unwritten { IfErr result (λ fault. fault ≢ CliFault.Write → output.new ≡ output.old) }
-    ensures lacking { LacksFile (H.lacks (held host.old)) (Job.Explain file.now workers is_serial limit color format is_all) → IsErrOf result CliFault.Read }
+    ensures job { EndsJob (H.sources (held host.old)) (H.lacks (held host.old)) (Job.Explain file.now workers is_serial limit color format is_all)
+        (W.contents (held output.old)) (W.contents (held output.new)) result }
+    ensures devices { LeavesDevices result (has_failed host.new) output.old output.new }
 {
     let mut program = host.open(file.as_str())?;
     let manner = Manner {
@@ -283,14 +250,9 @@ fn explain_input<H: Host, W: Write, R: Threads + Wait + Sync>(
     requires writer { has_failed output.old ≡ false }
     requires workers { (0 < workers) × (workers ≤ 64) }
     requires limit { limit ≤ most_entries }
-    ensures done { IfOk result (IsPerformed (H.sources (held host.old)) (Job.ExplainInput workers is_serial limit color format is_all)
-        (W.contents (held output.old)) (W.contents (held output.new))) }
-    ensures fault { IfErr result (HasJobCause (H.sources (held host.old)) (Job.ExplainInput workers is_serial limit color format is_all)
-        (W.contents (held output.old)) (W.contents (held output.new))) }
-    ensures delivered { OnOk result (is_delivered output.new ≡ true) }
-    ensures read_failed { IsErrOf result CliFault.Read ↔ IsTrue (has_failed host.new) }
-    ensures write_failed { IsErrOf result CliFault.Write ↔ IsTrue (has_failed output.new) }
-    ensures unwritten { IfErr result (λ fault. fault ≢ CliFault.Write → output.new ≡ output.old) }
+    ensures job { EndsJob (H.sources (held host.old)) (H.lacks (held host.old)) (Job.ExplainInput workers is_serial limit color format is_all)
+        (W.contents (held output.old)) (W.contents (held output.new)) result }
+    ensures devices { LeavesDevices result (has_failed host.new) output.old output.new }
 {
     let manner = Manner {
         is_painted: is_painted(host, color),
@@ -318,16 +280,10 @@ fn explain_traces<H: Host, W: Write>(
 ) -> Result<u8, CliFault>
     requires host { has_failed host.old ≡ false }
     requires writer { has_failed output.old ≡ false }
-    ensures done { IfOk result (IsPerformed (H.sources (held host.old)) (Job.ExplainTraces files.now color format is_all)
-        (W.contents (held output.old)) (W.contents (held output.new))) }
-    ensures fault { IfErr result (HasJobCause (H.sources (held host.old)) (Job.ExplainTraces files.now color format is_all)
-        (W.contents (held output.old)) (W.contents (held output.new))) }
+    ensures job { EndsJob (H.sources (held host.old)) (H.lacks (held host.old)) (Job.ExplainTraces files.now color format is_all)
+        (W.contents (held output.old)) (W.contents (held output.new)) result }
     ensures status { IfOk result (λ status. status ≤ 4) }
-    ensures delivered { OnOk result (is_delivered output.new ≡ true) }
-    ensures read_failed { IsErrOf result CliFault.Read ↔ IsTrue (has_failed host.new) }
-    ensures write_failed { IsErrOf result CliFault.Write ↔ IsTrue (has_failed output.new) }
-    ensures unwritten { IfErr result (λ fault. fault ≢ CliFault.Write → output.new ≡ output.old) }
-    ensures lacking { LacksFile (H.lacks (held host.old)) (Job.ExplainTraces files.now color format is_all) → IsErrOf result CliFault.Read }
+    ensures devices { LeavesDevices result (has_failed host.new) output.old output.new }
 {
     let is_painted = is_painted(host, color);
     explain_files(
@@ -357,15 +313,9 @@ fn record_file<H: Host, W: Write, R: Threads + Wait + Sync>(
     requires writer { has_failed output.old ≡ false }
     requires workers { (0 < workers) × (workers ≤ 64) }
     requires limit { limit ≤ most_entries }
-    ensures done { IfOk result (IsPerformed (H.sources (held host.old)) (Job.Record file.now workers limit trace.now)
-        (W.contents (held output.old)) (W.contents (held output.new))) }
-    ensures fault { IfErr result (HasJobCause (H.sources (held host.old)) (Job.Record file.now workers limit trace.now)
-        (W.contents (held output.old)) (W.contents (held output.new))) }
-    ensures delivered { OnOk result (is_delivered output.new ≡ true) }
-    ensures read_failed { IsErrOf result CliFault.Read ↔ IsTrue (has_failed host.new) }
-    ensures write_failed { IsErrOf result CliFault.Write ↔ IsTrue (has_failed output.new) }
-    ensures unwritten { IfErr result (λ fault. fault ≢ CliFault.Write → output.new ≡ output.old) }
-    ensures lacking { LacksFile (H.lacks (held host.old)) (Job.Record file.now workers limit trace.now) → IsErrOf result CliFault.Read }
+    ensures job { EndsJob (H.sources (held host.old)) (H.lacks (held host.old)) (Job.Record file.now workers limit trace.now)
+        (W.contents (held output.old)) (W.contents (held output.new)) result }
+    ensures devices { LeavesDevices result (has_failed host.new) output.old output.new }
     ensures recorded { IfOk result (IsRecorded (H.sources (held host.old)) (Job.Record file.now workers limit trace.now)
         (H.blank (held host.old)) (H.made (held host.new)) (W.contents (held output.old)) (W.contents (held output.new))) }
     ensures recorded_first { IfErr result (λ fault. fault ≡ CliFault.Write →
@@ -402,15 +352,9 @@ fn replay_files<H: Host, W: Write>(
 ) -> Result<u8, CliFault>
     requires host { has_failed host.old ≡ false }
     requires writer { has_failed output.old ≡ false }
-    ensures done { IfOk result (IsPerformed (H.sources (held host.old)) (Job.Replay file.now trace.now)
-        (W.contents (held output.old)) (W.contents (held output.new))) }
-    ensures fault { IfErr result (HasJobCause (H.sources (held host.old)) (Job.Replay file.now trace.now)
-        (W.contents (held output.old)) (W.contents (held output.new))) }
-    ensures delivered { OnOk result (is_delivered output.new ≡ true) }
-    ensures read_failed { IsErrOf result CliFault.Read ↔ IsTrue (has_failed host.new) }
-    ensures write_failed { IsErrOf result CliFault.Write ↔ IsTrue (has_failed output.new) }
-    ensures unwritten { IfErr result (λ fault. fault ≢ CliFault.Write → output.new ≡ output.old) }
-    ensures lacking { LacksFile (H.lacks (held host.old)) (Job.Replay file.now trace.now) → IsErrOf result CliFault.Read }
+    ensures job { EndsJob (H.sources (held host.old)) (H.lacks (held host.old)) (Job.Replay file.now trace.now)
+        (W.contents (held output.old)) (W.contents (held output.new)) result }
+    ensures devices { LeavesDevices result (has_failed host.new) output.old output.new }
 {
     if file.as_str() == INPUT {
         let mut entries = host.open(trace.as_str())?;
@@ -448,15 +392,9 @@ fn draw_file<H: Host, W: Write>(
 ) -> Result<u8, CliFault>
     requires host { has_failed host.old ≡ false }
     requires writer { has_failed output.old ≡ false }
-    ensures done { IfOk result (IsPerformed (H.sources (held host.old)) (Job.Draw file.now language)
-        (W.contents (held output.old)) (W.contents (held output.new))) }
-    ensures fault { IfErr result (HasJobCause (H.sources (held host.old)) (Job.Draw file.now language)
-        (W.contents (held output.old)) (W.contents (held output.new))) }
-    ensures delivered { OnOk result (is_delivered output.new ≡ true) }
-    ensures read_failed { IsErrOf result CliFault.Read ↔ IsTrue (has_failed host.new) }
-    ensures write_failed { IsErrOf result CliFault.Write ↔ IsTrue (has_failed output.new) }
-    ensures unwritten { IfErr result (λ fault. fault ≢ CliFault.Write → output.new ≡ output.old) }
-    ensures lacking { LacksFile (H.lacks (held host.old)) (Job.Draw file.now language) → IsErrOf result CliFault.Read }
+    ensures job { EndsJob (H.sources (held host.old)) (H.lacks (held host.old)) (Job.Draw file.now language)
+        (W.contents (held output.old)) (W.contents (held output.new)) result }
+    ensures devices { LeavesDevices result (has_failed host.new) output.old output.new }
 {
     let mut trace = open_named(host, file.as_str())?;
     let answer = draw_text(alloc, form_of(language), &mut trace, output);
@@ -489,16 +427,10 @@ pub fn perform_alone<H: Host, W: Write>(
     requires writer { has_failed output.old ≡ false }
     requires ranges { IsInRange job.now }
     requires alone { IsAlone job.now }
-    ensures done { IfOk result (IsPerformed (H.sources (held host.old)) job.now
-        (W.contents (held output.old)) (W.contents (held output.new))) }
-    ensures fault { IfErr result (HasJobCause (H.sources (held host.old)) job.now
-        (W.contents (held output.old)) (W.contents (held output.new))) }
+    ensures job { EndsJob (H.sources (held host.old)) (H.lacks (held host.old)) job.now
+        (W.contents (held output.old)) (W.contents (held output.new)) result }
     ensures status { IfOk result (λ status. status ≤ 4) }
-    ensures delivered { OnOk result (is_delivered output.new ≡ true) }
-    ensures read_failed { IsErrOf result CliFault.Read ↔ IsTrue (has_failed host.new) }
-    ensures write_failed { IsErrOf result CliFault.Write ↔ IsTrue (has_failed output.new) }
-    ensures unwritten { IfErr result (λ fault. fault ≢ CliFault.Write → output.new ≡ output.old) }
-    ensures lacking { LacksFile (H.lacks (held host.old)) job.now → IsErrOf result CliFault.Read }
+    ensures devices { LeavesDevices result (has_failed host.new) output.old output.new }
 {
     match job {
         Job::Judge { file: None, limit } => judge_input(alloc, host, *limit, output),
@@ -544,16 +476,10 @@ pub fn perform<H: Host, W: Write, R: Threads + Wait + Sync>(
     requires host { has_failed host.old ≡ false }
     requires writer { has_failed output.old ≡ false }
     requires ranges { IsInRange job.now }
-    ensures done { IfOk result (IsPerformed (H.sources (held host.old)) job.now
-        (W.contents (held output.old)) (W.contents (held output.new))) }
-    ensures fault { IfErr result (HasJobCause (H.sources (held host.old)) job.now
-        (W.contents (held output.old)) (W.contents (held output.new))) }
+    ensures job { EndsJob (H.sources (held host.old)) (H.lacks (held host.old)) job.now
+        (W.contents (held output.old)) (W.contents (held output.new)) result }
     ensures status { IfOk result (λ status. status ≤ 4) }
-    ensures delivered { OnOk result (is_delivered output.new ≡ true) }
-    ensures read_failed { IsErrOf result CliFault.Read ↔ IsTrue (has_failed host.new) }
-    ensures write_failed { IsErrOf result CliFault.Write ↔ IsTrue (has_failed output.new) }
-    ensures unwritten { IfErr result (λ fault. fault ≢ CliFault.Write → output.new ≡ output.old) }
-    ensures lacking { LacksFile (H.lacks (held host.old)) job.now → IsErrOf result CliFault.Read }
+    ensures devices { LeavesDevices result (has_failed host.new) output.old output.new }
     ensures recorded { IfOk result (IsRecorded (H.sources (held host.old)) job.now (H.blank (held host.old)) (H.made (held host.new))
         (W.contents (held output.old)) (W.contents (held output.new))) }
     ensures recorded_first { IfErr result (λ fault. fault ≡ CliFault.Write → IsRecordedFirst (H.sources (held host.old)) job.now

@@ -1,9 +1,10 @@
 //! Replaying the trace that a reader gives as a run of a program.
 
-ghost use Rattle.std.specs.Prelude.{◌≡◌, ◌↔◌, ◌≢◌, ◌||◌, ◌⊎◌, true, false, IfOk, IfErr, OnOk, IsErrOf, IsTrue};
+ghost use Rattle.std.specs.Prelude.{◌≡◌, ◌||◌, ◌⊎◌, false, IfOk, IfErr};
 ghost use Rattle.trace_text.specs.Traces.{contents as trace_contents};
 ghost use Rattle.program_text.specs.Programs.{contents};
-ghost use Rattle.command_streams.specs.Watched.{held, has_failed, is_delivered, calls_of, IsCalledAtMost};
+ghost use Rattle.command_streams.specs.Devices.{LeavesDevices};
+ghost use Rattle.command_streams.specs.Watched.{held, has_failed, calls_of, IsCalledAtMost};
 ghost use Rattle.command_streams.specs.Streams.{most_reads};
 ghost use Rattle.tool_commands.specs.Replays.{fault_of_request as request_fault_spec, AnswersAll, StopsGate};
 ghost use Rattle.tool_commands.specs.Replays.{ReplaysContents, StopsReplay, IsReplayed, HasReplayCause};
@@ -89,12 +90,9 @@ pub fn replay_text<A: Allocator + Copy, P: Read, T: Read, W: Write>(
     ensures fault { IfErr result (HasReplayCause (reading (P.remaining (held program.old)) (P.remaining (held program.new)))
         (reading (T.remaining (held trace.old)) (T.remaining (held trace.new)))
         (W.contents (held output.old)) (W.contents (held output.new))) }
-    ensures read_failed { IsErrOf result CliFault.Read ↔ IsTrue (has_failed program.new || has_failed trace.new) }
-    ensures delivered { OnOk result (is_delivered output.new ≡ true) }
-    ensures write_failed { IsErrOf result CliFault.Write ↔ IsTrue (has_failed output.new) }
+    ensures devices { LeavesDevices result (has_failed program.new || has_failed trace.new) output.old output.new }
     ensures program_reads { IsCalledAtMost most_reads (calls_of program.old) (calls_of program.new) }
     ensures trace_reads { IsCalledAtMost most_reads (calls_of trace.old) (calls_of trace.new) }
-    ensures unwritten { IfErr result (λ fault. fault ≢ CliFault.Write → output.new ≡ output.old) }
 {
     let program_bytes = match read_text(alloc, program) {
         Ok(text) => text,

@@ -1,6 +1,6 @@
 //! Running the program that a reader gives by many workers.
 
-ghost use Rattle.std.specs.Prelude.{◌≡◌, ◌↔◌, ◌<◌, ◌≤◌, ◌≢◌, ◌+◌, [], true, false, length, reverse, IfOk, IfErr, OnOk, IsErrOf, IsTrue, MatchResult};
+ghost use Rattle.std.specs.Prelude.{◌≡◌, ◌↔◌, ◌<◌, ◌≤◌, ◌≢◌, ◌+◌, [], false, reverse, IfOk, IfErr, IsTrue, MatchResult};
 ghost use Rattle.program_text.specs.Programs.{contents};
 ghost use Rattle.model_histories.specs.Shapes.{most_entries};
 ghost use Rattle.model_races.specs.Memory.{IsMemory};
@@ -8,10 +8,11 @@ ghost use Rattle.model_histories.specs.Extensions.{IsClean};
 ghost use Rattle.race_gate.specs.States.{IsRight};
 ghost use Rattle.program_text.specs.Shapes.{shape_in};
 ghost use Rattle.model_runs.specs.Runs.{IsFinishedRun};
-ghost use Rattle.command_streams.specs.Watched.{held, has_failed, is_delivered, calls_of, IsCalledAtMost};
+ghost use Rattle.command_streams.specs.Devices.{LeavesDevices};
+ghost use Rattle.command_streams.specs.Watched.{held, has_failed, calls_of, IsCalledAtMost};
 ghost use Rattle.command_streams.specs.Streams.{most_reads};
 ghost use Rattle.command_streams.specs.Readings.{reading};
-ghost use Rattle.tool_commands.specs.Runs.{fault_of_run, run_line, IsRunFault, TellsRun, IsRan, HasRunCause};
+ghost use Rattle.tool_commands.specs.Runs.{IsWholeRun, fault_of_run, run_line, IsRunFault, TellsRun, IsRan, HasRunCause};
 
 use crate::outcome::{Outcome, outcome_of, refusal_status, whole_status};
 use crate::program::parse_program;
@@ -22,7 +23,7 @@ use locked_replay::{
 use program_text::Program;
 use race_gate::{GateFault, Receipt, ShortGate};
 use race_report::report;
-use std::alloc::{AllocError, Global};
+use std::alloc::{AllocError, Allocator, Global};
 use std::io::{Read, Write};
 use std::marker::Brand;
 use std::sync::Wait;
@@ -42,10 +43,10 @@ pub trait Door {
 
     /// Lets a request in: `before`, and then the gate answers. A door that cheats its workers has one of its own. At Ok one more was asked
     /// on the seat, and at Err as much as before.
-    fn let_in<L: Ledger, R: Wait>(
+    fn let_in<L: Ledger, A: Allocator + Clone, R: Wait>(
         &self,
         rt: &R,
-        locked: &LockedGate<L>,
+        locked: &LockedGate<L, A>,
         seat: &mut Seat<L>,
         request: Request,
     ) -> Result<Receipt, GateFault>
@@ -67,12 +68,12 @@ impl Door for OpenDoor {
 
 /// A gate behind its lock, and a door before it.
 #[derive(Drop)]
-struct DoorGate<'a, D, L: Ledger> {
+struct DoorGate<'a, D, L: Ledger, A: Allocator + Clone> {
     door: &'a D,
-    locked: &'a LockedGate<L>,
+    locked: &'a LockedGate<L, A>,
 }
 
-impl<'a, D: Door, L: Ledger> Ask<L> for DoorGate<'a, D, L> {
+impl<'a, D: Door, L: Ledger, A: Allocator + Clone> Ask<L> for DoorGate<'a, D, L, A> {
     fn ask<R: Wait>(
         &self,
         rt: &R,
@@ -101,15 +102,20 @@ pub(crate) fn fault_of(fault: RunFault) -> CliFault
 }
 
 /// What the workers bring back that ask this gate through the door.
-fn run_through<L: Ledger + Send + Sync, D: Door + Sync, R: Threads + Wait + Sync>(
+fn run_through<
+    L: Ledger + Send + Sync,
+    A: Allocator + Copy + Send + Sync,
+    D: Door + Sync,
+    R: Threads + Wait + Sync,
+>(
     rt: &R,
-    alloc: Global,
+    alloc: A,
     program: &Program<Global>,
     workers: usize,
     door: &D,
-    locked: &LockedGate<L>,
+    locked: &LockedGate<L, A>,
     seat: Seat<L>,
-) -> Result<Vec<WorkerLog<L>>, RunFault>
+) -> Result<Vec<WorkerLog<L, A>, A>, RunFault>
     requires workers { (0 < workers) × (workers ≤ 64) }
     requires parts { seat.parts ≡ 64 }
 {
@@ -118,10 +124,10 @@ fn run_through<L: Ledger + Send + Sync, D: Door + Sync, R: Threads + Wait + Sync
 }
 
 /// What the gate shows behind workers that brought no logs: that its history is no finished run, or that it is one which nobody brought.
-fn diagnose_unfinished(
-    alloc: Global,
+fn diagnose_unfinished<A: Allocator + Copy>(
+    alloc: A,
     program: &Program<Global>,
-    gate: &ShortGate,
+    gate: &ShortGate<A>,
     limit: u32,
 ) -> RunFault
     requires { IsRight gate.now }
@@ -134,10 +140,10 @@ fn diagnose_unfinished(
 }
 
 /// Limit where the gate's history is a run of the program that has come to the limit, and is not at its end.
-fn diagnose_limit(
-    alloc: Global,
+fn diagnose_limit<A: Allocator + Copy>(
+    alloc: A,
     program: &Program<Global>,
-    gate: &ShortGate,
+    gate: &ShortGate<A>,
     limit: u32,
 ) -> RunFault
     requires { IsRight gate.now }
@@ -158,10 +164,10 @@ fn diagnose_limit(
 }
 
 /// The fault where a worker that met it stopped the gate.
-fn diagnose_stopped(
-    alloc: Global,
+fn diagnose_stopped<A: Allocator + Copy>(
+    alloc: A,
     program: &Program<Global>,
-    gate: &ShortGate,
+    gate: &ShortGate<A>,
     limit: u32,
     fault: RunFault,
 ) -> RunFault
@@ -178,10 +184,10 @@ fn diagnose_stopped(
 
 /// What a run answers whose workers met this fault and brought no logs: the fault, where the gate bears it out, and else what the gate
 /// shows.
-fn diagnose_fault(
-    alloc: Global,
+fn diagnose_fault<A: Allocator + Copy>(
+    alloc: A,
     program: &Program<Global>,
-    gate: &ShortGate,
+    gate: &ShortGate<A>,
     limit: u32,
     fault: RunFault,
 ) -> RunFault
@@ -199,25 +205,22 @@ fn diagnose_fault(
 
 /// A run that did not come to its end.
 #[derive(Drop)]
-pub(crate) struct UnfinishedRun {
+pub(crate) struct UnfinishedRun<A: Allocator + Clone = Global> {
     /// Why.
     pub fault: RunFault,
     /// The gate that the workers left, where they brought no logs.
-    pub gate: Option<ShortGate>,
+    pub gate: Option<ShortGate<A>>,
 }
 
 /// The finished run that the workers brought back, of at most `limit` entries.
-fn gather_run<L: Ledger>(
-    alloc: Global,
+fn gather_run<L: Ledger, A: Allocator + Copy>(
+    alloc: A,
     program: &Program<Global>,
-    locked: LockedGate<L>,
-    logs: Vec<WorkerLog<L>>,
+    locked: LockedGate<L, A>,
+    logs: Vec<WorkerLog<L, A>, A>,
     limit: u32,
-) -> Result<Whole, RunFault>
-    ensures run { IfOk result (λ whole. IsFinishedRun program.now.functions (shape_in program.now) (reverse whole.entries.items)) }
-    ensures memory { IfOk result (λ whole. IsMemory (shape_in program.now).cells (reverse whole.entries.items) whole.memory.items) }
-    ensures clean { IfOk result (λ whole. IsTrue whole.clean ↔ IsClean (reverse whole.entries.items)) }
-    ensures within { IfOk result (λ whole. length whole.entries.items ≤ limit) }
+) -> Result<Whole<A>, RunFault>
+    ensures whole { IfOk result (IsWholeRun program.now limit) }
     ensures fault { IfErr result (λ fault. IsRunFault (contents program.now) limit (fault_of_run fault)) }
 {
     let whole = gather(alloc, program, locked, logs)?;
@@ -228,24 +231,26 @@ fn gather_run<L: Ledger>(
 }
 
 /// A finished run of the program by so many workers, of at most `limit` entries, or what there is of a run without its end.
-pub(crate) fn some_run<L: Ledger + Send + Sync, D: Door + Sync, R: Threads + Wait + Sync>(
+pub(crate) fn some_run<
+    L: Ledger + Send + Sync,
+    A: Allocator + Copy + Send + Sync,
+    D: Door + Sync,
+    R: Threads + Wait + Sync,
+>(
     rt: &R,
-    alloc: Global,
+    alloc: A,
     program: &Program<Global>,
     workers: usize,
     door: &D,
     limit: u32,
     blank: Blank,
-) -> Result<Whole, UnfinishedRun>
+) -> Result<Whole<A>, UnfinishedRun<A>>
     requires workers { (0 < workers) × (workers ≤ 64) }
     requires limit { limit ≤ most_entries }
     requires name { blank.name ≡ L.name }
     requires all { blank.parts ≡ L.parts }
     requires parts { blank.parts ≡ 64 }
-    ensures run { IfOk result (λ whole. IsFinishedRun program.now.functions (shape_in program.now) (reverse whole.entries.items)) }
-    ensures memory { IfOk result (λ whole. IsMemory (shape_in program.now).cells (reverse whole.entries.items) whole.memory.items) }
-    ensures clean { IfOk result (λ whole. IsTrue whole.clean ↔ IsClean (reverse whole.entries.items)) }
-    ensures within { IfOk result (λ whole. length whole.entries.items ≤ limit) }
+    ensures whole { IfOk result (IsWholeRun program.now limit) }
     ensures fault { IfErr result (λ cut. IsRunFault (contents program.now) limit (fault_of_run cut.fault)) }
 {
     let Ok(gate) = open_gate(alloc, program, limit) else {
@@ -254,7 +259,7 @@ pub(crate) fn some_run<L: Ledger + Send + Sync, D: Door + Sync, R: Threads + Wai
             gate: None,
         });
     };
-    let (locked, seat) = LockedGate::<L>::new(gate, blank, PARTS);
+    let (locked, seat) = LockedGate::<L, A>::new(gate, blank, PARTS);
     let logs = match run_through(rt, alloc, program, workers, door, &locked, seat) {
         Ok(logs) => logs,
         Err(fault) => {
@@ -273,17 +278,14 @@ pub(crate) fn some_run<L: Ledger + Send + Sync, D: Door + Sync, R: Threads + Wai
 }
 
 /// The finished run whose history the gate has.
-fn whole_of_gate(
-    alloc: Global,
+fn whole_of_gate<A: Allocator + Copy>(
+    alloc: A,
     program: &Program<Global>,
-    gate: ShortGate,
+    gate: ShortGate<A>,
     limit: u32,
-) -> Result<Whole, RunFault>
+) -> Result<Whole<A>, RunFault>
     requires { IsRight gate }
-    ensures run { IfOk result (λ whole. IsFinishedRun program.now.functions (shape_in program.now) (reverse whole.entries.items)) }
-    ensures memory { IfOk result (λ whole. IsMemory (shape_in program.now).cells (reverse whole.entries.items) whole.memory.items) }
-    ensures clean { IfOk result (λ whole. IsTrue whole.clean ↔ IsClean (reverse whole.entries.items)) }
-    ensures within { IfOk result (λ whole. length whole.entries.items ≤ limit) }
+    ensures whole { IfOk result (IsWholeRun program.now limit) }
     ensures fault { IfErr result (λ fault. IsRunFault (contents program.now) limit (fault_of_run fault)) }
 {
     check_run(alloc, program, &gate)?;
@@ -301,16 +303,13 @@ fn whole_of_gate(
 }
 
 /// As [`some_run`], by one worker that runs each child before what follows its spawn, so that it is the same run each time.
-pub(crate) fn serial_run(
-    alloc: Global,
+pub(crate) fn serial_run<A: Allocator + Copy>(
+    alloc: A,
     program: &Program<Global>,
     limit: u32,
-) -> Result<Whole, UnfinishedRun>
+) -> Result<Whole<A>, UnfinishedRun<A>>
     requires limit { limit ≤ most_entries }
-    ensures run { IfOk result (λ whole. IsFinishedRun program.now.functions (shape_in program.now) (reverse whole.entries.items)) }
-    ensures memory { IfOk result (λ whole. IsMemory (shape_in program.now).cells (reverse whole.entries.items) whole.memory.items) }
-    ensures clean { IfOk result (λ whole. IsTrue whole.clean ↔ IsClean (reverse whole.entries.items)) }
-    ensures within { IfOk result (λ whole. length whole.entries.items ≤ limit) }
+    ensures whole { IfOk result (IsWholeRun program.now limit) }
     ensures fault { IfErr result (λ cut. IsRunFault (contents program.now) limit (fault_of_run cut.fault)) }
 {
     let Ok(mut gate) = open_gate(alloc, program, limit) else {
@@ -337,37 +336,39 @@ pub(crate) fn serial_run(
 }
 
 /// A finished run of the program by so many workers, of at most `limit` entries.
-pub(crate) fn whole_run<L: Ledger + Send + Sync, D: Door + Sync, R: Threads + Wait + Sync>(
+pub(crate) fn whole_run<
+    L: Ledger + Send + Sync,
+    A: Allocator + Copy + Send + Sync,
+    D: Door + Sync,
+    R: Threads + Wait + Sync,
+>(
     rt: &R,
-    alloc: Global,
+    alloc: A,
     program: &Program<Global>,
     workers: usize,
     door: &D,
     limit: u32,
     blank: Blank,
-) -> Result<Whole, RunFault>
+) -> Result<Whole<A>, RunFault>
     requires workers { (0 < workers) × (workers ≤ 64) }
     requires limit { limit ≤ most_entries }
     requires name { blank.name ≡ L.name }
     requires all { blank.parts ≡ L.parts }
     requires parts { blank.parts ≡ 64 }
-    ensures run { IfOk result (λ whole. IsFinishedRun program.now.functions (shape_in program.now) (reverse whole.entries.items)) }
-    ensures memory { IfOk result (λ whole. IsMemory (shape_in program.now).cells (reverse whole.entries.items) whole.memory.items) }
-    ensures clean { IfOk result (λ whole. IsTrue whole.clean ↔ IsClean (reverse whole.entries.items)) }
-    ensures within { IfOk result (λ whole. length whole.entries.items ≤ limit) }
+    ensures whole { IfOk result (IsWholeRun program.now limit) }
     ensures fault { IfErr result (λ fault. IsRunFault (contents program.now) limit (fault_of_run fault)) }
 {
-    match some_run::<L, D, R>(rt, alloc, program, workers, door, limit, blank) {
+    match some_run::<L, A, D, R>(rt, alloc, program, workers, door, limit, blank) {
         Ok(whole) => Ok(whole),
         Err(cut) => Err(cut.fault),
     }
 }
 
 /// The report of a finished run and a line feed.
-pub(crate) fn report_line(
+pub(crate) fn report_line<A: Allocator>(
     alloc: Global,
     program: &Program<Global>,
-    whole: &Whole,
+    whole: &Whole<A>,
 ) -> Result<Vec<u8>, AllocError>
     requires run { IsFinishedRun program.now.functions (shape_in program.now) (reverse whole.now.entries.items) }
     requires memory { IsMemory (shape_in program.now).cells (reverse whole.now.entries.items) whole.now.memory.items }
@@ -380,9 +381,10 @@ pub(crate) fn report_line(
 }
 
 /// The line that tells a finished run of the program by so many workers, and the exit status.
-fn run_and_report<D: Door + Sync, R: Threads + Wait + Sync>(
+fn run_and_report<A: Allocator + Copy + Send + Sync, D: Door + Sync, R: Threads + Wait + Sync>(
     rt: &R,
-    alloc: Global,
+    alloc: A,
+    heap: Global,
     program: &Program<Global>,
     workers: usize,
     door: &D,
@@ -393,7 +395,7 @@ fn run_and_report<D: Door + Sync, R: Threads + Wait + Sync>(
     ensures ok { IfOk result (λ told. TellsRun (contents program.now) limit told.0.items told.1) }
     ensures fault { IfErr result (IsRunFault (contents program.now) limit) }
 {
-    let whole = match whole_run::<Brand, D, R>(
+    let whole = match whole_run::<Brand, A, D, R>(
         rt,
         alloc,
         program,
@@ -405,13 +407,13 @@ fn run_and_report<D: Door + Sync, R: Threads + Wait + Sync>(
         Ok(whole) => whole,
         Err(fault) => return Err(fault_of(fault)),
     };
-    let line = report_line(alloc, program, &whole)?;
+    let line = report_line(heap, program, &whole)?;
     Ok((line, whole_status(&whole)))
 }
 
 /// Reads a program to its end, runs it by so many workers, which ask a gate with this limit on the entries of its history, and writes the
 /// report of the run and a line feed. Before each request the door is told its strand. It answers the exit status: 1 where an entry is
-/// refused or unset, else 0.
+/// refused or unset, else 0. The run grows on `alloc`; the program and the report are made on `heap`.
 ///
 /// It answers [`CliFault::Read`] or [`CliFault::Write`] exactly where the reader or the writer has failed, [`CliFault::TooLong`] for more
 /// than 67,108,864 bytes, [`CliFault::Program`] with the first fault of a text that means
@@ -419,9 +421,16 @@ fn run_and_report<D: Door + Sync, R: Threads + Wait + Sync>(
 /// [`CliFault::Torn`] or [`CliFault::Strange`] where the workers brought no finished run, and [`CliFault::Memory`] where a growth was
 /// refused or a thread could not be started. Nothing is written then, but for the part that a failed write has taken. The reader is asked
 /// at most 67,108,865 times, as its `calls` tells where it began with room for more than these.
-pub fn run_text<D: Door + Sync, P: Read, W: Write, R: Threads + Wait + Sync>(
+pub fn run_text<
+    A: Allocator + Copy + Send + Sync,
+    D: Door + Sync,
+    P: Read,
+    W: Write,
+    R: Threads + Wait + Sync,
+>(
     rt: &R,
-    alloc: Global,
+    alloc: A,
+    heap: Global,
     program: &mut Watched<P>,
     workers: usize,
     door: &D,
@@ -436,15 +445,12 @@ pub fn run_text<D: Door + Sync, P: Read, W: Write, R: Threads + Wait + Sync>(
         (W.contents (held output.old)) (W.contents (held output.new)) limit) }
     ensures fault { IfErr result (HasRunCause (reading (P.remaining (held program.old)) (P.remaining (held program.new)))
         (W.contents (held output.old)) (W.contents (held output.new)) limit) }
-    ensures read_failed { IsErrOf result CliFault.Read ↔ IsTrue (has_failed program.new) }
-    ensures delivered { OnOk result (is_delivered output.new ≡ true) }
-    ensures write_failed { IsErrOf result CliFault.Write ↔ IsTrue (has_failed output.new) }
+    ensures devices { LeavesDevices result (has_failed program.new) output.old output.new }
     ensures reads { IsCalledAtMost most_reads (calls_of program.old) (calls_of program.new) }
-    ensures unwritten { IfErr result (λ fault. fault ≢ CliFault.Write → output.new ≡ output.old) }
 {
-    let text = read_text(alloc, program)?;
-    let program = parse_program(alloc, text)?;
-    let (line, status) = run_and_report(rt, alloc, &program, workers, door, limit)?;
+    let text = read_text(heap, program)?;
+    let program = parse_program(heap, text)?;
+    let (line, status) = run_and_report(rt, alloc, heap, &program, workers, door, limit)?;
     write_text(output, line.as_slice())?;
     Ok(status)
 }

@@ -1,8 +1,9 @@
 //! Several traces explained together.
 
-ghost use Rattle.std.specs.Prelude.{◌≡◌, ◌↔◌, ◌≢◌, ◌≤◌, false, true, IfOk, IfErr, OnOk, IsErrOf, IsTrue, Option, List, ℕ, Bool, map, string_bytes};
+ghost use Rattle.std.specs.Prelude.{◌≡◌, ◌↔◌, ◌≤◌, false, IfOk, IfErr, OnOk, IsErrOf, IsTrue, Option, List, ℕ, Bool, map, string_bytes};
 ghost use Rattle.std.specs.Option.{option_map};
-ghost use Rattle.command_streams.specs.Watched.{held, has_failed, is_delivered};
+ghost use Rattle.command_streams.specs.Devices.{LeavesDevices};
+ghost use Rattle.command_streams.specs.Watched.{held, has_failed};
 ghost use Rattle.command_streams.specs.Readings.{reading};
 ghost use Rattle.tool_commands.specs.Together.{together_of, TakesReading, StopsTaking};
 ghost use Rattle.tool_commands.specs.Several.{TellsSeveral, StopsSeveral, AreExplained, HasSeveralCause};
@@ -90,10 +91,7 @@ pub(crate) fn explain_files<H: Host, W: Write>(
     ensures fault { IfErr result (HasSeveralCause is_painted extent rendering (H.sources (held host.old)).file (map string_bytes files.now)
         (W.contents (held output.old)) (W.contents (held output.new))) }
     ensures status { IfOk result (λ status. status ≤ 2) }
-    ensures delivered { OnOk result (is_delivered output.new ≡ true) }
-    ensures read_failed { IsErrOf result CliFault.Read ↔ IsTrue (has_failed host.new) }
-    ensures write_failed { IsErrOf result CliFault.Write ↔ IsTrue (has_failed output.new) }
-    ensures unwritten { IfErr result (λ fault. fault ≢ CliFault.Write → output.new ≡ output.old) }
+    ensures devices { LeavesDevices result (has_failed host.new) output.old output.new }
     ensures lacking { lacks_first (H.lacks (held host.old)) (map string_bytes files.now) → IsErrOf result CliFault.Read }
 {
     let (told, status) = explain_texts(alloc, host, is_painted, extent, rendering, files)?;

@@ -4,6 +4,7 @@ ghost use Rattle.std.specs.Prelude.{◌≡◌, ◌↔◌, ◌<◌, ◌≤◌, �
 ghost use Rattle.std.specs.Io.KnownBytes.{Appends};
 ghost use Rattle.program_text.specs.Programs.{contents};
 ghost use Rattle.model_histories.specs.Shapes.{most_entries};
+ghost use Rattle.command_streams.specs.Devices.{LeavesDevices};
 ghost use Rattle.command_streams.specs.Watched.{held, has_failed, is_delivered, calls_of, IsCalledAtMost};
 ghost use Rattle.command_streams.specs.Streams.{most_reads};
 ghost use Rattle.command_streams.specs.Readings.{reading};
@@ -50,7 +51,7 @@ pub fn trace_run<D: Door + Sync, R: Threads + Wait + Sync>(
     ensures ok { IfOk result (λ told. TellsTraced (contents program.now) limit told.line.items told.trace.items told.status) }
     ensures fault { IfErr result (IsRunFault (contents program.now) limit) }
 {
-    let whole = match whole_run::<Brand, D, R>(
+    let whole = match whole_run::<Brand, Global, D, R>(
         rt,
         alloc,
         program,
@@ -170,14 +171,11 @@ pub fn run_traced_text<D: Door + Sync, P: Read, T: Write, W: Write, R: Threads +
         (T.contents (held trace.old)) (T.contents (held trace.new)) (W.contents (held output.old)) (W.contents (held output.new)) limit) }
     ensures fault { IfErr result (HasTracedCause (reading (P.remaining (held program.old)) (P.remaining (held program.new)))
         (T.contents (held trace.old)) (T.contents (held trace.new)) (W.contents (held output.old)) (W.contents (held output.new)) limit) }
-    ensures read_failed { IsErrOf result CliFault.Read ↔ IsTrue (has_failed program.new) }
-    ensures delivered { OnOk result (is_delivered output.new ≡ true) }
+    ensures devices { LeavesDevices result (has_failed program.new) output.old output.new }
     ensures trace_delivered { OnOk result (is_delivered trace.new ≡ true) }
     ensures trace_first { IsErrOf result CliFault.Write → is_delivered trace.new ≡ true }
     ensures trace_failed { IsErrOf result CliFault.Unwritten ↔ IsTrue (has_failed trace.new) }
-    ensures write_failed { IsErrOf result CliFault.Write ↔ IsTrue (has_failed output.new) }
     ensures reads { IsCalledAtMost most_reads (calls_of program.old) (calls_of program.new) }
-    ensures unwritten { IfErr result (λ fault. fault ≢ CliFault.Write → output.new ≡ output.old) }
     ensures untraced { IfErr result (λ fault. fault ≢ CliFault.Unwritten → fault ≢ CliFault.Write → trace.new ≡ trace.old) }
 {
     let told = match trace_run_of_text(rt, alloc, program, workers, door, limit) {
@@ -201,7 +199,7 @@ fn run_and_trace<D: Door + Sync, R: Threads + Wait + Sync>(
     ensures ok { IfOk result (λ told. TellsTrace (contents program.now) limit told.0.items told.1) }
     ensures fault { IfErr result (IsRunFault (contents program.now) limit) }
 {
-    let whole = match whole_run::<Brand, D, R>(
+    let whole = match whole_run::<Brand, Global, D, R>(
         rt,
         alloc,
         program,
@@ -237,11 +235,8 @@ pub fn write_run_trace<D: Door + Sync, P: Read, W: Write, R: Threads + Wait + Sy
         (W.contents (held output.old)) (W.contents (held output.new)) limit) }
     ensures fault { IfErr result (HasTraceCause (reading (P.remaining (held program.old)) (P.remaining (held program.new)))
         (W.contents (held output.old)) (W.contents (held output.new)) limit) }
-    ensures read_failed { IsErrOf result CliFault.Read ↔ IsTrue (has_failed program.new) }
-    ensures delivered { OnOk result (is_delivered output.new ≡ true) }
-    ensures write_failed { IsErrOf result CliFault.Write ↔ IsTrue (has_failed output.new) }
+    ensures devices { LeavesDevices result (has_failed program.new) output.old output.new }
     ensures reads { IsCalledAtMost most_reads (calls_of program.old) (calls_of program.new) }
-    ensures unwritten { IfErr result (λ fault. fault ≢ CliFault.Write → output.new ≡ output.old) }
 {
     let text = read_text(alloc, program)?;
     let program = parse_program(alloc, text)?;

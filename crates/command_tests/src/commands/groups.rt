@@ -98,7 +98,7 @@ race: write-read on y, 1 time
 ";
 
 /// What is spawned twice on one line races with itself, and with what follows.
-const ROUNDS: &str =
+pub(super) const ROUNDS: &str =
     "cilk 1\nmem x\nspawn 0 @4\nwrite 1 x 1 @9\nspawn 2 @4\nwrite 4 x 2 @9\nwrite 5 x 3 @6\n";
 
 const ROUNDS_TOLD: &str =

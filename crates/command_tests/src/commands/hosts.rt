@@ -34,9 +34,9 @@ const PAIR_TRACE: &str =
 
 /// A standard input, and files with their names.
 #[derive(Clone, Copy)]
-struct Texts<'a> {
-    input: &'a str,
-    files: &'a [(&'a str, &'a str)],
+pub(super) struct Texts<'a> {
+    pub(super) input: &'a str,
+    pub(super) files: &'a [(&'a str, &'a str)],
 }
 
 /// Gives the bytes of a text.
@@ -97,7 +97,7 @@ impl<'a> Host for Texts<'a> {
 
 /// What is to be done, with these files.
 #[derive(Clone, Copy)]
-enum Deed {
+pub(super) enum Deed {
     JudgeInput,
     Judge(&'static str),
     Elide(&'static str),
@@ -236,7 +236,7 @@ fn check_both<R: Abort + Threads + Wait + Sync>(
 }
 
 /// Of the deed comes what is wanted, by either call.
-fn check_either<R: Abort + Threads + Wait + Sync>(
+pub(super) fn check_either<R: Abort + Threads + Wait + Sync>(
     rt: &R,
     alloc: Global,
     case: &(Texts<'_>, Deed, Wanted<'_>),

@@ -12,16 +12,16 @@ use std::thread::Threads;
 
 /// A head, lines that are repeated, and a tail.
 #[derive(Clone, Copy)]
-struct Long {
-    head: &'static str,
-    repeated: &'static str,
-    times: u32,
-    tail: &'static str,
+pub(super) struct Long {
+    pub(super) head: &'static str,
+    pub(super) repeated: &'static str,
+    pub(super) times: u32,
+    pub(super) tail: &'static str,
 }
 
 impl Long {
     /// The whole text.
-    fn text(self, alloc: Global) -> Result<String, AllocError> {
+    pub(super) fn text(self, alloc: Global) -> Result<String, AllocError> {
         let mut text = String::new(alloc);
         text.push_str(self.head)?;
         for _ in 0..self.times {
@@ -67,7 +67,7 @@ fn check_zeros<R: Abort + Threads + Wait + Sync>(
 }
 
 /// Declarations that go on behind the first piece.
-const LATE: Long = Long {
+pub(super) const LATE: Long = Long {
     head: "cilk 1\nmem a\n",
     repeated: "# no request yet\n",
     times: 10_000,
@@ -75,7 +75,7 @@ const LATE: Long = Long {
 };
 
 /// A line longer than a piece.
-const WIDE: Long = Long {
+pub(super) const WIDE: Long = Long {
     head: "cilk 1\nmem x\nread 0 x\n#",
     repeated: " a remark without an end",
     times: 20_000,
@@ -83,7 +83,7 @@ const WIDE: Long = Long {
 };
 
 /// Lines of which one ends with its carriage return in one piece and its line feed in the next.
-const RETURNS: Long = Long {
+pub(super) const RETURNS: Long = Long {
     head: "cilk 1\r\nmem x\r\n#12345\r\n",
     repeated: "read 0 x\r\n",
     times: 20_000,

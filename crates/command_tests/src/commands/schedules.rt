@@ -65,7 +65,7 @@ fn ran_pair<D: Door + Sync, R: Threads + Wait + Sync>(
 ) -> Outcome {
     let mut program = Watched::new(PAIR.as_bytes());
     let mut output = Watched::new(wanted.writer(alloc));
-    let answer = run_text(rt, alloc, &mut program, 2, door, &mut output, MOST);
+    let answer = run_text(rt, alloc, alloc, &mut program, 2, door, &mut output, MOST);
     outcome_of(answer, &program, output)
 }
 

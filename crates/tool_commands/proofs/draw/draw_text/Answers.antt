@@ -25,7 +25,11 @@ returns-clause-answered g c =
     drawn_whole _ _ _ _ _ _ _ c.in_ok-bytes.bytes.items c.in_ok-notes.notes (search rules) c.in_ok-trace.ensures.ok
     (rw c.as_slice.ensures.value at c.in_ok-notes.ensures) c.in_ok-text.ensures.ok (search rules)
 
-pub returns-in_err-write_text-clause-unwritten : goal.returns-in_err-write_text-clause-unwritten
-returns-in_err-write_text-clause-unwritten g c =
-    let gone = err_from_is_err_and c.from_residual-in_err-write_text.result c.from_residual-in_err-write_text.ensures.1 in
-    rw (gone.1, gone.2) (λ other. absurd (other (write_alone _ _ _ c.in_err-write_text.field-0.0 c.in_err-write_text.ensures.fault)))
+pub returns-in_err-write_text-clause-devices : goal.returns-in_err-write_text-clause-devices
+returns-in_err-write_text-clause-devices g c =
+    let gone = err_from_is_err_and c.from_residual-in_err-write_text.result c.from_residual-in_err-write_text.ensures.1 in record {
+      delivered = search rules;
+      read_failed = search rules;
+      write_failed = search rules;
+      unwritten = rw (gone.1, gone.2) (λ other. absurd (other (write_alone _ _ _ c.in_err-write_text.field-0.0 c.in_err-write_text.ensures.fault)));
+    }

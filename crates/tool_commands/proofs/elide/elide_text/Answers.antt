@@ -1,4 +1,4 @@
-use Rattle.std.proofs.Common.{ℕ, List, subst}
+use Rattle.std.proofs.Common.{rules, ℕ, List, subst}
 use Rattle.std.proofs.lemmas.Result.{err_from_is_err_and}
 use Rattle.program_text.specs.Programs.{contents}
 use Rattle.text_words.specs.declared.value.Mem.{Mem}
@@ -33,3 +33,11 @@ returns-in_err-write_elision-clause-fault g c =
     (subst (λ (values : List ℕ). StopsWriting wrote writes (elision_text c.in_ok-program.program.mems values requests) fault) c.as_slice-2.ensures.value
     (subst (λ (mems : List Mem). StopsWriting wrote writes (elision_text mems c.as_slice-2.result.now requests) fault) c.as_slice.ensures
     c.in_err-write_elision.ensures.fault)))
+
+pub returns-in_err-lines-clause-devices : goal.returns-in_err-lines-clause-devices
+returns-in_err-lines-clause-devices g c =
+    record { delivered = search rules; read_failed = search rules; write_failed = search rules; unwritten = search rules }
+
+pub returns-in_err-write_elision-clause-devices : goal.returns-in_err-write_elision-clause-devices
+returns-in_err-write_elision-clause-devices g c =
+    record { delivered = search rules; read_failed = search rules; write_failed = search rules; unwritten = search rules }

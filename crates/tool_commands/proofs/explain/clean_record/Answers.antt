@@ -1,5 +1,7 @@
 use Rattle.std.proofs.Common.{subst, ap₂, ◌∙◌}
 use Rattle.std.proofs.lemmas.Result.{IfOk-weaker}
+use Rattle.std.specs.Ordering.{nat_cmp}
+use Rattle.std.specs.BTreeMap.{get}
 use Rattle.text_words.specs.Text.{lines}
 use Rattle.serde_json.specs.Data.{Data}
 use Rattle.serde_json.specs.View.{view}
@@ -17,9 +19,10 @@ pub returns : goal.returns
 returns c =
     let entries = c.args.whole.now.entries.items in
     let program = contents c.args.program.now in
+    let wraps = get nat_cmp c.args.wraps.now in
     IfOk-weaker c.run_record.result _ _
-    (λ told records. subst (λ (memory : Data). RecordsRun c.args.form Clean c.args.manner.now.extent c.args.manner.now.file (lines c.args.text.now) program entries memory told.items)
+    (λ told records. subst (λ (memory : Data). RecordsRun c.args.form Clean c.args.manner.now.extent c.args.manner.now.file (lines c.args.text.now) program wraps entries memory told.items)
     (c.in_ok-memory.ensures ∙ ap₂ memory_told c.as_slice.ensures c.as_slice-2.ensures.value)
-    (subst (λ (manner : Manner). RecordsRun c.args.form Clean manner.extent manner.file (lines c.args.text.now) program entries
+    (subst (λ (manner : Manner). RecordsRun c.args.form Clean manner.extent manner.file (lines c.args.text.now) program wraps entries
     (view c.in_ok-memory.memory) told.items) c.manner.view_is (records entries c.in_ok-digest.ensures.digest)))
     c.run_record.ensures

@@ -8,7 +8,7 @@ use Rattle.tool_commands.specs.Explanations.{Manner, cut_text}
 use Rattle.tool_commands.proofs.explain.cut_text_told.Goals as goal
 
 pub returns : goal.returns
-returns c = λ entries is.
+returns c = λ wraps entries is.
     let told = c.in_ok-told.told.items in
     let counted : c.len.result ≡ length c.args.digest.now.lines.items = search rules in (
       told,

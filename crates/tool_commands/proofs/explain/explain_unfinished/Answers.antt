@@ -15,7 +15,13 @@ returns-then-refusal_status-eq0 c = record {
   run = c.requires.run.0;
   full = c.requires.full;
   unfinished = c.requires.run.1;
-  explains = c.in_ok-told.ensures c.args.entries.now c.in_ok-digest.ensures.0;
+  explains = record {
+    wraps = c.args.wraps.now;
+    are_wraps = c.requires.wraps;
+    run = c.in_ok-run.run'.items;
+    tells_run = c.in_ok-run.ensures c.args.entries.now c.in_ok-digest.ensures.0;
+    behind = c.in_ok-told.ensures;
+  };
   refused_is = sym c.if-refusal_status-eq0.true ∙ c.refusal_status.ensures;
 }
 
@@ -25,6 +31,12 @@ returns c = record {
   run = c.requires.run.0;
   full = c.requires.full;
   unfinished = c.requires.run.1;
-  explains = c.in_ok-told.ensures c.args.entries.now c.in_ok-digest.ensures.0;
+  explains = record {
+    wraps = c.args.wraps.now;
+    are_wraps = c.requires.wraps;
+    run = c.in_ok-run.run'.items;
+    tells_run = c.in_ok-run.ensures c.args.entries.now c.in_ok-digest.ensures.0;
+    behind = c.in_ok-told.ensures;
+  };
   refused_is = some_refused c.args.entries.now (λ none. c.if-refusal_status-eq0.false (c.refusal_status.ensures ∙ none));
 }

@@ -12,8 +12,17 @@ returns-then-whole c = record {
   left = c.requires.memory;
   clean = c.requires.clean.0 c.if-whole.true;
   speaks = program_law c.args.program.now (reverse c.args.whole.now.entries.items) c.requires.run (c.requires.clean.0 c.if-whole.true);
-  tells = search rules;
+  tells = record {
+    wraps = c.in_ok-wraps.wraps;
+    are_wraps = c.in_ok-wraps.ensures;
+    run = c.in_ok-run.run'.items;
+    tells_run = c.in_ok-run.ensures;
+    behind = c.in_ok-told.ensures;
+  };
 }
+
+pub wraps_of-requires-clause-judged : goal.wraps_of-requires-clause-judged
+wraps_of-requires-clause-judged c = c.requires.run.0.run.judged
 
 pub explain_clean-requires-clause-judged : goal.explain_clean-requires-clause-judged
 explain_clean-requires-clause-judged c = (shape_in c.args.program.now, c.requires.run.0.run.judged)
@@ -30,5 +39,11 @@ returns c = record {
   run = c.requires.run;
   within = c.requires.within;
   raced = search rules;
-  explains = c.in_ok-told-2.ensures c.args.whole.now.entries.items c.in_ok-digest.ensures.digest;
+  explains = record {
+    wraps = c.in_ok-wraps.wraps;
+    are_wraps = c.in_ok-wraps.ensures;
+    run = c.in_ok-run-2.run'.items;
+    tells_run = c.in_ok-run-2.ensures c.args.whole.now.entries.items c.in_ok-digest.ensures.digest;
+    behind = c.in_ok-told-2.ensures;
+  };
 }

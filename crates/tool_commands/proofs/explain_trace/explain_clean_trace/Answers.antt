@@ -16,7 +16,7 @@ returns c = λ manner is_text.
     let clean : IsClean (reverse entries) = subst (λ (some : Entries). IsClean some) (sym (reverse-reverse history)) all.clean in
     record {
       trace = trace_contents c.args.trace.now;
-      means = c.requires.means;
+      means = c.requires.means.means;
       gate = all.gate;
       answers = all.answers;
       entries = entries;

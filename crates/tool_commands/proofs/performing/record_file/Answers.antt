@@ -3,22 +3,28 @@ use Rattle.std.proofs.lemmas.Result.{IfErr-weaker}
 use Rattle.tool_commands.proofs.TracedCauses.{not_run, not_created, not_written, recorded_ran, recorded_kept, recorded_first}
 use Rattle.tool_commands.proofs.performing.record_file.Goals as goal
 
-pub returns-in-Err-told-clause-fault : goal.returns-in-Err-told-clause-fault
-returns-in-Err-told-clause-fault g c = not_run _ _ _ _ _ c.args.limit c.in-Err-told.fault c.in-Err-told.ensures.fault (search rules)
+pub returns-in-Err-told-clause-job : goal.returns-in-Err-told-clause-job
+returns-in-Err-told-clause-job g c = record {
+  done = search rules;
+  fault = not_run _ _ _ _ _ c.args.limit c.in-Err-told.fault c.in-Err-told.ensures.fault (search rules);
+  lacking = search rules;
+}
 
-pub returns-in-Err-create-clause-fault : goal.returns-in-Err-create-clause-fault
-returns-in-Err-create-clause-fault g c =
-    not_created _ _ _ c.args.limit _ _ _ c.in-Ok-told.ensures.ok (search rules) _ _ c.in-Err-create.fault c.in-Err-create.ensures.fault
+pub returns-in-Err-create-clause-job : goal.returns-in-Err-create-clause-job
+returns-in-Err-create-clause-job g c = record {
+  done = search rules;
+  fault = not_created _ _ _ c.args.limit _ _ _ c.in-Ok-told.ensures.ok (search rules) _ _ c.in-Err-create.fault c.in-Err-create.ensures.fault;
+  lacking = search rules;
+}
 
-pub returns-clause-done : goal.returns-clause-done
-returns-clause-done g c =
-    recorded_ran _ _ _ c.args.limit _ _ _ c.in-Ok-told.ensures.ok (search rules) _ _ _ _ c.write_traced_run-answer.result
-    c.write_traced_run-answer.ensures.status c.write_traced_run-answer.ensures.kept c.write_traced_run-answer.ensures.written
-
-pub returns-clause-fault : goal.returns-clause-fault
-returns-clause-fault g c =
-    IfErr-weaker c.write_traced_run-answer.result _ _
-    (λ fault stops. not_written _ _ _ c.args.limit _ _ _ c.in-Ok-told.ensures.ok (search rules) _ _ _ _ fault stops) c.write_traced_run-answer.ensures.fault
+pub returns-clause-job : goal.returns-clause-job
+returns-clause-job g c = record {
+  done = recorded_ran _ _ _ c.args.limit _ _ _ c.in-Ok-told.ensures.ok (search rules) _ _ _ _ c.write_traced_run-answer.result
+      c.write_traced_run-answer.ensures.status c.write_traced_run-answer.ensures.kept c.write_traced_run-answer.ensures.written;
+  fault = IfErr-weaker c.write_traced_run-answer.result _ _
+      (λ fault stops. not_written _ _ _ c.args.limit _ _ _ c.in-Ok-told.ensures.ok (search rules) _ _ _ _ fault stops) c.write_traced_run-answer.ensures.fault;
+  lacking = search rules;
+}
 
 pub returns-clause-recorded : goal.returns-clause-recorded
 returns-clause-recorded g c =

@@ -4,10 +4,10 @@ use Rattle.tool_commands.proofs.RunFaults.{nobody_brought, left_fault}
 use Rattle.tool_commands.proofs.run.diagnose_unfinished.Goals as goal
 
 pub returns-in-Ok : goal.returns-in-Ok
-returns-in-Ok c = nobody_brought c.args.gate.now c.requires c.in-Ok.ensures.run.1
+returns-in-Ok g c = nobody_brought c.args.gate.now c.requires c.in-Ok.ensures.run.1
 
 pub returns-in-Err : goal.returns-in-Err
-returns-in-Err c =
+returns-in-Err g c =
     left_fault c.args.program.now c.args.limit c.args.gate.now c.in-Err.fault c.requires
     (λ same. c.in-Err.ensures.strange (ap (λ (f : RunFault). Err f) same))
     (λ same. c.in-Err.ensures.faults.0 (ap (λ (f : RunFault). Err f) same))

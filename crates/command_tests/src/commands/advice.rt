@@ -1,0 +1,77 @@
+//! What orders the accesses of a race, and whether it is sure to.
+
+use super::Command::{Explain, ExplainAsJson};
+use super::Wanted::Text;
+use super::groups::ROUNDS;
+use super::{Case, check_all};
+
+/// The spawner calls a function that reads what is spawned writes, and the call is not recorded.
+const CALLEE: &str =
+    "cilk 1\nmem x\n#at 6 q.c:6, sum | s += a[i];\n#at 9 q.c:9, fill | a[i] = 0;\n#at 12 q.c:12, main | cilk_spawn fill(a);\nspawn 0 @12\nwrite 1 x 7 @9\nread 2 x @6\n";
+
+const CALLEE_TOLD: &str = "race: write-read on x, 1 time
+  --> q.c:9, in fill
+   |  a[i] = 0;
+   = this write
+   = spawned at q.c:12, in main
+  --> q.c:6, in sum
+   |  s += a[i];
+   = this read, may run before it or after it
+  --> q.c:12, in main
+   |  cilk_spawn fill(a);
+   = here they part: what is spawned comes to q.c:9, while `main` goes on to q.c:6
+   = help: a `sync` in `main` between the spawn at q.c:12 and what `sum` does at q.c:6 may order them
+
+1 refusal at 1 pair of places, among 3 requests
+";
+
+const CALLEE_RECORD: &str =
+    r#"{"memory":null,"outcome":"raced","pairs":1,"races":[{"group":1,"help":"a `sync` in `main` between the spawn at q.c:12 and what `sum` does at q.c:6 may order them","kind":"write-read","locations":["x"],"outstanding":null,"parting":{"child":{"code":"a[i] = 0;","column":null,"file":"q.c","function":"fill","line":9},"next":{"code":"s += a[i];","column":null,"file":"q.c","function":"sum","line":6},"spawn":{"code":"cilk_spawn fill(a);","column":null,"file":"q.c","function":"main","line":12}},"refused":{"further":0,"place":{"code":"s += a[i];","column":null,"file":"q.c","function":"sum","line":6},"within":[],"word":"read"},"rule":"determinacy-race","spawn_line":12,"times":1,"witness":{"further":0,"place":{"code":"a[i] = 0;","column":null,"file":"q.c","function":"fill","line":9},"within":[{"place":{"code":"cilk_spawn fill(a);","column":null,"file":"q.c","function":"main","line":12},"way":"spawned"}],"word":"write"}}],"recorded":[],"refusals":1,"requests":3,"traces":1,"untold":[],"version":1,"warned":0,"warnings":[]}"#;
+
+/// The same with another read behind, and no function noted for the first.
+const CALLEES: &str =
+    "cilk 1\nmem x\n#at 6 q.c:6\n#at 7 q.c:7, sum\n#at 9 q.c:9, fill\n#at 12 q.c:12, main\nspawn 0 @12\nwrite 1 x 7 @9\nread 2 x @6\nread 2 x @7\n";
+
+const CALLEES_TOLD: &str =
+    "2 pairs of places part at one spawn: what is spawned at q.c:12 runs beside what `main` does from q.c:6 on
+   = help: a `sync` in `main` between the spawn at q.c:12 and what is done at q.c:6 may order them
+
+race: write-read on x, 1 time
+  --> q.c:9, in fill
+   = this write
+   = spawned at q.c:12, in main
+  --> q.c:6
+   = this read, may run before it or after it
+  --> q.c:12, in main
+   = here they part: what is spawned comes to q.c:9, while `main` goes on to q.c:6
+
+race: write-read on x, 1 time
+  --> q.c:9, in fill
+   = this write
+   = spawned at q.c:12, in main
+  --> q.c:7, in sum
+   = this read, may run before it or after it
+  --> q.c:12, in main
+   = here they part: what is spawned comes to q.c:9, while `main` goes on to q.c:7
+
+2 refusals at 2 pairs of places, among 4 requests
+";
+
+/// What is spawned twice on one line: the sync before line 6 does not order the two spawned.
+const ROUNDS_RECORD: &str =
+    r#"{"memory":null,"outcome":"raced","pairs":2,"races":[{"group":1,"help":"what is spawned here again and again is never ordered: give each a place of its own, or use a reducer","kind":"write-write","locations":["x"],"outstanding":null,"parting":{"child":{"code":null,"column":null,"file":null,"function":null,"line":9},"next":{"code":null,"column":null,"file":null,"function":null,"line":4},"spawn":{"code":null,"column":null,"file":null,"function":null,"line":4}},"refused":{"further":0,"place":{"code":null,"column":null,"file":null,"function":null,"line":9},"within":[{"place":{"code":null,"column":null,"file":null,"function":null,"line":4},"way":"spawned"}],"word":"write"},"rule":"determinacy-race","spawn_line":4,"times":1,"witness":{"further":0,"place":{"code":null,"column":null,"file":null,"function":null,"line":9},"within":[{"place":{"code":null,"column":null,"file":null,"function":null,"line":4},"way":"spawned"}],"word":"write"}},{"group":1,"help":"a `sync` in the spawner before line 6 may order them","kind":"write-write","locations":["x"],"outstanding":null,"parting":{"child":{"code":null,"column":null,"file":null,"function":null,"line":9},"next":{"code":null,"column":null,"file":null,"function":null,"line":6},"spawn":{"code":null,"column":null,"file":null,"function":null,"line":4}},"refused":{"further":0,"place":{"code":null,"column":null,"file":null,"function":null,"line":6},"within":[],"word":"write"},"rule":"determinacy-race","spawn_line":4,"times":1,"witness":{"further":0,"place":{"code":null,"column":null,"file":null,"function":null,"line":9},"within":[{"place":{"code":null,"column":null,"file":null,"function":null,"line":4},"way":"spawned"}],"word":"write"}}],"recorded":[],"refusals":2,"requests":5,"traces":1,"untold":[],"version":1,"warned":0,"warnings":[]}"#;
+
+/// Traces and what is told of them.
+const ADVISED: &[Case<'static>] = &[
+    (Explain(2, 713), CALLEE, Text(1, CALLEE_TOLD)),
+    (ExplainAsJson(9), CALLEE, Text(1, CALLEE_RECORD)),
+    (Explain(2, 713), CALLEES, Text(1, CALLEES_TOLD)),
+    (ExplainAsJson(9), ROUNDS, Text(1, ROUNDS_RECORD)),
+];
+
+/// A line of another function names no place in the spawner, and a sync that may leave some of a group unordered is told with `may` in each
+/// form.
+#[test]
+fn a_sync_is_told_as_sure_only_where_it_is(rt: HostRuntime) {
+    check_all(&rt, rt.alloc(), ADVISED);
+}

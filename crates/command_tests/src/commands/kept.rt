@@ -1,0 +1,273 @@
+//! Traces of which `explain` keeps the first piece and the requests, and texts that it keeps as they stand. What is told is worked out by
+//! hand from what is told of short texts.
+
+ghost use Rattle.std.specs.Prelude.{◌≡◌, false};
+ghost use Rattle.command_streams.specs.Watched.{has_failed};
+
+use super::Command::{Explain, ExplainAsJson};
+use super::Wanted::{Text, Unread};
+use super::pieces::{LATE, Long, RETURNS, WIDE};
+use super::{Command, MOST, Wanted, check};
+use crate::devices::{Breaking, Giving};
+use command_streams::{KeptText, read_kept};
+use std::alloc::{AllocError, Global};
+use std::process::Abort;
+use std::sync::Wait;
+use std::test::Fail;
+use std::thread::Threads;
+use tool_commands::{Extent, Manner, Rendering, Traces, Watched};
+
+/// A head, lines that are repeated, and a tail.
+macro_rules! long {
+    ($head:literal, $repeated:literal, $tail:literal) => {
+        Long {
+            head: $head,
+            repeated: $repeated,
+            times: 20_000,
+            tail: $tail,
+        }
+    };
+}
+
+/// Plain lines of requests alone.
+const PLAIN: Long = long!("cilk 1\nmem x\n", "read 0 x\n", "");
+
+/// A line behind the others that has no line feed.
+const UNENDED: Long = long!("cilk 1\nmem x\n", "read 0 x\n", "read 0 x");
+
+/// One with a number that has a zero before it.
+const ZERO: Long = long!("cilk 1\nmem x\n", "read 0 x\n", "read 00 x\n");
+
+/// A blank line.
+const BLANK: Long = long!("cilk 1\nmem x\n", "read 0 x\n", "\nread 0 x\n");
+
+/// A comment behind each request.
+const REMARKS: Long = long!("cilk 1\nmem x\n", "read 0 x\n# a remark\n", "");
+
+/// A note in the head, and one behind the requests.
+const RECORDED: Long = long!(
+    "cilk 1\nmem x\n#run first\n",
+    "read 0 x\n",
+    "#run last\nread 0 x\n"
+);
+
+/// Notes in the head alone, and a race.
+const RACED: Long = long!(
+    "cilk 1\nmem x\n#of x the cell\n#at 9 a.c:9\n#run first\nspawn 0 @5\nwrite 1 x 7 @9\n",
+    "read 2 x @6\n",
+    ""
+);
+
+/// A name that is wrong.
+const FAULTY: Long = long!("cilk 1\nmem x\n", "read 0 x\n", "read 0 y\nread 0 x\n");
+
+/// A request of a strand that has ended.
+const ENDED: Long = long!(
+    "cilk 1\nmem x\n",
+    "read 0 x\n",
+    "return 0\nread 0 x\nread 0 x\n"
+);
+
+/// A program.
+const PROGRAM: Long = long!("cilk 1\nmem x\nfunc main z\n", "write x 1\n", "end\n");
+
+/// What is told of so many requests that are clean.
+macro_rules! clean {
+    ($judged:literal) => {
+        Text(
+            0,
+            concat!(
+                "clean: no two of the accesses of this trace race, in whatever order its strands run\njudged: ",
+                $judged,
+                "\n"
+            ),
+        )
+    };
+}
+
+const RECORDED_TOLD: &str =
+    "clean: no two of the accesses of this trace race, in whatever order its strands run
+judged: 20001 requests
+recorded: first
+recorded: last
+";
+
+const RACED_TOLD: &str = "race: write-read on the cell, 20000 times
+  --> a.c:9
+   = this write
+   = spawned at line 5
+  --> line 6
+   = this read, may run before it or after it
+  --> line 5
+   = here they part: what is spawned comes to a.c:9, while the spawner goes on to line 6
+   = help: a `sync` in the spawner before line 6 would order them
+
+20000 refusals at 1 pair of places, among 20002 requests
+recorded: first
+";
+
+const RACED_RECORD: &str =
+    r#"{"memory":null,"outcome":"raced","pairs":1,"races":[{"group":1,"help":"a `sync` in the spawner before line 6 would order them","kind":"write-read","locations":["the cell"],"outstanding":null,"parting":{"child":{"code":null,"column":null,"file":"a.c","function":null,"line":9},"next":{"code":null,"column":null,"file":null,"function":null,"line":6},"spawn":{"code":null,"column":null,"file":null,"function":null,"line":5}},"refused":{"further":0,"place":{"code":null,"column":null,"file":null,"function":null,"line":6},"within":[],"word":"read"},"rule":"determinacy-race","spawn_line":5,"times":20000,"witness":{"further":0,"place":{"code":null,"column":null,"file":"a.c","function":null,"line":9},"within":[{"place":{"code":null,"column":null,"file":null,"function":null,"line":5},"way":"spawned"}],"word":"write"}}],"recorded":["first"],"refusals":20000,"requests":20002,"traces":1,"untold":[],"version":1,"warned":0,"warnings":[]}"#;
+
+const FAULTY_TOLD: &str = "error: no cell has this name
+     --> p.cilk:20003
+      |
+20003 | read 0 y
+      |        ^
+      = help: declare it before the first request, by `mem NAME`
+";
+
+const ENDED_TOLD: &str = "error: this strand has ended
+     --> p.cilk:20004
+      |
+20004 | read 0 x
+      | ^^^^^^^^
+      = request 20002: strand 0 ended at line 20003: `return 0`
+      = help: a spawn and a sync end their strand: `judge` prints the number by which the function goes on. Behind a return there is none
+";
+
+const PROGRAM_TOLD: &str =
+    "clean for every schedule: no run of this program has a race, and each leaves this memory\nx 1\n";
+
+/// The command over this text does what is wanted, in whatever pieces it comes.
+fn check_long<R: Abort + Threads + Wait + Sync>(
+    rt: &R,
+    alloc: Global,
+    command: Command<'_>,
+    long: Long,
+    wanted: Wanted<'_>,
+) -> Result<(), Fail> {
+    let text = long.text(alloc)?;
+    for most in [7usize, 100_003, 131_072] {
+        let text = text.as_bytes();
+        check(rt, alloc, command, Giving { text, most }, wanted);
+    }
+    Ok(())
+}
+
+/// Texts that are explained, and what is told of them.
+const EXPLAINED: &[(Long, Wanted<'static>)] = &[
+    (PLAIN, clean!("20000 requests")),
+    (UNENDED, clean!("20001 requests")),
+    (ZERO, clean!("20001 requests")),
+    (BLANK, clean!("20001 requests")),
+    (REMARKS, clean!("20000 requests")),
+    (RETURNS, clean!("20001 requests")),
+    (WIDE, clean!("2 requests")),
+    (LATE, clean!("1 request")),
+    (RECORDED, Text(0, RECORDED_TOLD)),
+    (RACED, Text(1, RACED_TOLD)),
+    (FAULTY, Text(2, FAULTY_TOLD)),
+    (ENDED, Text(2, ENDED_TOLD)),
+    (PROGRAM, Text(0, PROGRAM_TOLD)),
+];
+
+/// Texts, and whether all behind the first piece are plain lines of requests.
+const KEPT: &[(Long, bool)] = &[
+    (PLAIN, true),
+    (RACED, true),
+    (ENDED, true),
+    (UNENDED, false),
+    (ZERO, false),
+    (BLANK, false),
+    (REMARKS, false),
+    (RETURNS, false),
+    (WIDE, false),
+    (LATE, false),
+    (RECORDED, false),
+    (FAULTY, false),
+    (PROGRAM, false),
+];
+
+/// The text that is kept, and whether only its head stands as it was read.
+fn kept_text(alloc: Global, source: &KeptText<Global>) -> Result<(Vec<u8>, bool), AllocError> {
+    match source {
+        KeptText::Whole(text) => Ok((Vec::from_slice(alloc, text.as_slice())?, false)),
+        KeptText::Plain(kept) => Ok((kept.to_text(alloc)?, true)),
+    }
+}
+
+/// Of plain lines of requests no text is kept, and it is given again.
+#[test]
+fn plain_lines_are_kept_as_requests(rt: HostRuntime) -> Result<(), Fail> {
+    for (long, is_plain) in KEPT {
+        let text = long.text(rt.alloc())?;
+        let mut reader = Watched::new(text.as_bytes());
+        let source = read_kept(rt.alloc(), &mut reader)?;
+        let (given, is_packed) = kept_text(rt.alloc(), &source)?;
+        assert_eq!(rt; given.as_slice() == text.as_bytes(), true);
+        assert_eq!(rt; is_packed, *is_plain);
+    }
+    Ok(())
+}
+
+/// Behind the first piece a text goes on with plain lines of requests, or with others, and the same is told as of a short text.
+#[test]
+fn long_texts_are_explained(rt: HostRuntime) -> Result<(), Fail> {
+    for (long, wanted) in EXPLAINED {
+        check_long(&rt, rt.alloc(), Explain(2, MOST), *long, *wanted)?;
+    }
+    Ok(())
+}
+
+#[test]
+fn a_long_trace_is_told_as_json(rt: HostRuntime) -> Result<(), Fail> {
+    let wanted = Text(1, RACED_RECORD);
+    check_long(&rt, rt.alloc(), ExplainAsJson(MOST), RACED, wanted)
+}
+
+/// A reader that fails behind the first piece, among plain lines of requests.
+#[test]
+fn a_failure_behind_the_first_piece(rt: HostRuntime) -> Result<(), Fail> {
+    let text = PLAIN.text(rt.alloc())?;
+    let reader = Breaking {
+        text: text.as_bytes(),
+        left: 150_000,
+    };
+    let command = Explain(2, MOST);
+    check(&rt, rt.alloc(), command, reader, Unread(150_000));
+    Ok(())
+}
+
+const TOGETHER_TOLD: &str = "race: write-read on the cell, 40000 times
+  --> a.c:9
+   = this write
+   = spawned at line 5
+  --> line 6
+   = this read, may run before it or after it
+  --> line 5
+   = here they part: what is spawned comes to a.c:9, while the spawner goes on to line 6
+   = help: a `sync` in the spawner before line 6 would order them
+
+40000 refusals at 1 pair of places, among 60005 requests in 3 traces
+recorded: first
+recorded: last
+";
+
+/// Adds this text to the traces, which tell nothing of it.
+fn add<R: Abort>(rt: &R, alloc: Global, traces: &mut Traces, long: Long) -> Result<(), Fail> {
+    let text = long.text(alloc)?;
+    let manner = Manner {
+        is_painted: false,
+        rendering: Rendering::Text,
+        extent: Extent::First,
+        file: "p.cilk",
+    };
+    let mut reader = Watched::new(text.as_bytes());
+    let told = traces.read(alloc, &manner, &mut reader)?;
+    assert!(rt; told.is_none());
+    Ok(())
+}
+
+#[test]
+fn long_traces_are_explained_together(rt: HostRuntime) -> Result<(), Fail> {
+    let alloc = rt.alloc();
+    let mut traces = Traces::new(alloc);
+    add(&rt, alloc, &mut traces, RACED)?;
+    add(&rt, alloc, &mut traces, RECORDED)?;
+    add(&rt, alloc, &mut traces, RACED)?;
+    let told = traces.to_message(alloc, Extent::First, Rendering::Text)?;
+    assert_eq!(rt; told.as_slice(), TOGETHER_TOLD.as_bytes());
+    assert_eq!(rt; traces.status(), 1);
+    Ok(())
+}
