@@ -40,7 +40,7 @@ use Rattle.model_histories.specs.Shapes.{Shape}
 use Rattle.model_histories.specs.Legal.{IsLegal, Belongs}
 use Rattle.model_histories.specs.Extensions.{IsCleanAnswer, IsClean}
 use Rattle.model_races.specs.Reducers.{steps_of, granted_reads}
-use Rattle.model_races.specs.ReducerVerdicts.{IsGetValue, IsRightFor, ReducersAreJudged}
+use Rattle.model_races.specs.ReducerVerdicts.{IsGetValue, IsRightFor, ReadsBefore, ReducersAreJudged, reads_before}
 use Rattle.race_gate.proofs.Races.{legal-part}
 use Rattle.race_gate.proofs.Entering.{steps-control}
 use Rattle.model_accesses.specs.Reads.{ReducerRead}
@@ -148,20 +148,20 @@ module _ (shape : Shape) where
 
 -- the value of a get
 
-get_value : (reducer : ℕ) (monoids : List Monoid) (history : History) (steps : Steps) (earlier : List ReducerRead) (strand : ℕ) (answer : Answer) → Belongs (Act.Get reducer) answer → IsCleanAnswer answer →
-    IsRightFor monoids history steps earlier strand (Act.Get reducer) answer → (v : ℕ) × (value_given answer ≡ Some v) × IsGetValue monoids steps strand reducer v
-get_value reducer monoids before steps earlier strand (Value v) b c k = (v, refl, k.1)
-get_value reducer monoids before steps earlier strand (Refused rule witness) b c k = absurd c
-get_value reducer monoids before steps earlier strand Unset b c k = absurd c
-get_value reducer monoids before steps earlier strand _ b c k = absurd b
+get_value : (reducer : ℕ) (before : ReadsBefore) (strand : ℕ) (answer : Answer) → Belongs (Act.Get reducer) answer → IsCleanAnswer answer →
+    IsRightFor before strand (Act.Get reducer) answer → (v : ℕ) × (value_given answer ≡ Some v) × IsGetValue before.monoids before.steps strand reducer v
+get_value reducer before strand (Value v) b c k = (v, refl, k.1)
+get_value reducer before strand (Refused rule witness) b c k = absurd c
+get_value reducer before strand Unset b c k = absurd c
+get_value reducer before strand _ b c k = absurd b
 
 module _ (shape : Shape) (reducer : ℕ) where
   pub value_now : (entry : Entry) (entries : Entries) → entry.request.act ≡ Act.Get reducer → IsLegal shape (entry ∷ entries) → ReducersAreJudged shape (entry ∷ entries) → IsClean (entry ∷ entries) →
       (v : ℕ) × (value_given entry.answer ≡ Some v) × IsGetValue shape.monoids (steps_of entries) entry.request.strand reducer v
   value_now entry entries e l judged clean =
-      get_value reducer shape.monoids (control_part entries) (steps_of entries) (granted_reads entries) entry.request.strand entry.answer
+      get_value reducer (reads_before shape.monoids entries) entry.request.strand entry.answer
       (subst (λ a. Belongs a entry.answer) e l.1.belongs) (All-head (λ one. IsCleanAnswer one.answer) entry entries clean)
-      (subst (λ a. IsRightFor shape.monoids (control_part entries) (steps_of entries) (granted_reads entries) entry.request.strand a entry.answer) e judged.1)
+      (subst (λ a. IsRightFor (reads_before shape.monoids entries) entry.request.strand a entry.answer) e judged.1)
 
   -- before each get there is a put
   record PutBefore (entries : Entries) (get : Placed) : Type 0 where

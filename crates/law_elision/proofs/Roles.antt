@@ -35,7 +35,7 @@ use Rattle.model_histories.specs.Extensions.{IsCleanAnswer, IsClean}
 use Rattle.model_races.specs.Accesses.{is_granted}
 use Rattle.model_races.specs.Reducers.{step_with, steps_of, read_at, granted_reads}
 use Rattle.model_races.specs.ViewReads.{IsRightRead}
-use Rattle.model_races.specs.ReducerVerdicts.{IsRightFor, ReducersAreJudged}
+use Rattle.model_races.specs.ReducerVerdicts.{IsRightFor, ReducersAreJudged, reads_before}
 use Rattle.race_gate.proofs.Races.{legal-part}
 use Rattle.race_gate.proofs.Entering.{steps-control}
 use Rattle.law_elision.specs.Placed.{Placed, placed_at, IsPlaced}
@@ -117,12 +117,12 @@ placed_read entries y p read is = (contains_present read (granted_reads entries)
 -- what is right of a read
 
 right_read : (reducer : ℕ) (monoids : List Monoid) (entries : Entries) (strand : ℕ) (act : Act) (answer : Answer) → IsRead reducer act →
-    IsRightFor monoids (control_part entries) (steps_of entries) (granted_reads entries) strand act answer →
+    IsRightFor (reads_before monoids entries) strand act answer →
     (new : Kind) × IsRightRead (control_part entries) (granted_reads entries) strand reducer new answer
 right_read reducer monoids entries strand act answer (inl t) r =
-    let right = subst (λ a. IsRightFor monoids (control_part entries) (steps_of entries) (granted_reads entries) strand a answer) t.1 r in (kind.Put, right)
+    let right = subst (λ a. IsRightFor (reads_before monoids entries) strand a answer) t.1 r in (kind.Put, right)
 right_read reducer monoids entries strand act answer (inr e) r =
-    let right = subst (λ a. IsRightFor monoids (control_part entries) (steps_of entries) (granted_reads entries) strand a answer) e r in (kind.Get, right.0)
+    let right = subst (λ a. IsRightFor (reads_before monoids entries) strand a answer) e r in (kind.Get, right.0)
 
 read_granted : (reducer : ℕ) (act : Act) (answer : Answer) → Belongs act answer → IsCleanAnswer answer → IsRead reducer act → is_granted answer ≡ true
 read_granted reducer (Act.Put asked value) Granted b c k = refl

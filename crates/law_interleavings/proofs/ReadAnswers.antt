@@ -16,7 +16,7 @@ use Rattle.model_histories.specs.Shapes.{Shape}
 use Rattle.model_histories.specs.Legal.{Belongs, IsLegal}
 use Rattle.model_races.specs.Reducers.{steps_of, granted_reads}
 use Rattle.model_races.specs.Verdicts.{IsRefused, IfValue}
-use Rattle.model_races.specs.ReducerVerdicts.{IsGetValue, IsRightFor, ReducersAreJudged}
+use Rattle.model_races.specs.ReducerVerdicts.{IsGetValue, IsRightFor, ReducersAreJudged, reads_before}
 use Rattle.model_races.specs.Judged.{IsJudged}
 use Rattle.model_histories.specs.Extensions.{IsCleanAnswer}
 use Rattle.law_interleavings.proofs.Control.{legal_part}
@@ -64,7 +64,7 @@ some_same a b e = cc
 get_value : (shape : Shape) (H : Entries) (e : Entry) (reducer value : ℕ) → ReducersAreJudged shape (e ∷ H) → e.request.act ≡ Get reducer → e.answer ≡ Value value →
     IsGetValue shape.monoids (steps_of H) e.request.strand reducer value
 get_value shape H e r v j q a =
-    let right = subst (λ act. IsRightFor shape.monoids (control_part H) (steps_of H) (granted_reads H) e.request.strand act e.answer) q j.1 in
+    let right = subst (λ act. IsRightFor (reads_before shape.monoids H) e.request.strand act e.answer) q j.1 in
     subst (λ o. IfValue o (IsGetValue shape.monoids (steps_of H) e.request.strand r)) a right.1
 
 module _ {Note : Type 0} (shape : Shape) (mine T : Notes Note) (meeting : Meeting shape mine T) (judged : IsJudged shape (meeting.next ∷ meeting.part))

@@ -27,7 +27,7 @@ use Rattle.model_histories.specs.Legal.{Belongs, IsLegal}
 use Rattle.model_races.specs.Accesses.{is_granted}
 use Rattle.model_races.specs.Reducers.{steps_of, read_at, granted_reads}
 use Rattle.model_races.specs.ViewReads.{Completes, IsRightRead}
-use Rattle.model_races.specs.ReducerVerdicts.{IsRightFor, ReducersAreJudged}
+use Rattle.model_races.specs.ReducerVerdicts.{IsRightFor, ReducersAreJudged, reads_before}
 use Rattle.model_histories.specs.Extensions.{IsCleanAnswer}
 use Rattle.law_interleavings.proofs.Control.{legal_part, none_listed}
 use Rattle.law_interleavings.specs.Traces.{Notes, Occurrence, occurrence_address, occurrence_of, trace}
@@ -176,7 +176,7 @@ module _ {Note : Type 0} (shape : Shape) (T : Notes Note) where
   pub read_verdict : (H : Entries) (e : Entry) (reducer : ℕ) → ReducersAreJudged shape (e ∷ H) → IsReadBy reducer e.request.act → ReadVerdict H e reducer
   read_verdict H e r j q = go e.request.act j.1 q
     where
-      go : (act : Act) → IsRightFor shape.monoids (control_part H) (steps_of H) (granted_reads H) e.request.strand act e.answer → IsReadBy r act → ReadVerdict H e r
+      go : (act : Act) → IsRightFor (reads_before shape.monoids H) e.request.strand act e.answer → IsReadBy r act → ReadVerdict H e r
       go (Put s v) right q = record { kind_is = kind.Put; right = subst (λ z. IsRightRead (control_part H) (granted_reads H) e.request.strand z kind.Put e.answer) q right }
       go (Get s) right q = record { kind_is = kind.Get; right = subst (λ z. IsRightRead (control_part H) (granted_reads H) e.request.strand z kind.Get e.answer) q right.0 }
       go _ right q = absurd q

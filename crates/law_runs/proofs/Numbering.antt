@@ -33,7 +33,7 @@ use Rattle.model_races.specs.Accesses.{cell_access}
 use Rattle.model_races.specs.Memory.{last_written, bumped_since, effects}
 use Rattle.model_races.specs.Verdicts.{IsRightVerdict}
 use Rattle.model_races.specs.Reducers.{step_with, steps_of, granted_reads}
-use Rattle.model_races.specs.ReducerVerdicts.{IsGetValue, IsRightFor}
+use Rattle.model_races.specs.ReducerVerdicts.{IsGetValue, IsRightFor, reads_before}
 use Rattle.model_bodies.specs.Codes.{Code}
 use Rattle.model_bodies.specs.Sound.{IsSound}
 use Rattle.model_programs.specs.declared.target.Target.{Target}
@@ -224,7 +224,7 @@ get_number monoids steps k strand reducer number is =
 
 given_by : (shape : Shape) (entries : Entries) (strand : ℕ) (act : Act) (answer : Answer) → Belongs act answer →
     MatchOption (cell_access act) (Unit {0}) (λ access. IsRightVerdict entries strand access answer) →
-    IsRightFor shape.monoids (control_part entries) (steps_of entries) (granted_reads entries) strand act answer → AreNumbered entries → IsGiven (value_given answer)
+    IsRightFor (reads_before shape.monoids entries) strand act answer → AreNumbered entries → IsGiven (value_given answer)
 given_by shape entries strand (Act.Read cell) (Value v) b m r n =
     subst (λ w. w < 2 ^ 64) (sym m.value) (remainder (last_written (effects entries) cell + bumped_since (effects entries) cell))
 given_by shape entries strand (Act.Get reducer) (Value v) b m r n = get_number shape.monoids (steps_of entries) (steps_numbered entries n) strand reducer v r.1

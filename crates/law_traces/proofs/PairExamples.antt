@@ -17,7 +17,7 @@ use Rattle.model_races.specs.Accesses.{cell_access}
 use Rattle.model_races.specs.Judged.{IsJudged}
 use Rattle.law_addresses.proofs.Extremes.{contains-head, contains-cases}
 use Rattle.law_traces.specs.Locations.{access_of, HasRefusal}
-use Rattle.law_traces.specs.Pairs.{IsNear, StandsForPair, StandsForNear, HasItsPairs}
+use Rattle.law_traces.specs.Pairs.{IsNear, StandsForPair, HasItsPairs, deed, deed_of}
 use Rattle.law_traces.specs.Examples.{two_cells, asked, refused_by, called_again, second_call, both_calls_write, spawned, write_then_reads, neighbours_as_cells, write_read_write, near_as_cells, with_first_as_cells, first_write, the_read, last_write}
 use Rattle.law_traces.proofs.Histories.{none_in}
 use Rattle.law_traces.proofs.Judging.{write_granted, write_refused, read_granted, read_refused, spawns, parallel_in, none_refused, each_access, another_cell, nothing_judged, cell_of, kind_of, no_access_of_spawn}
@@ -192,7 +192,7 @@ writes_not_near near =
 abbrev IsOneOf : Address → Kind → Address → Kind → Address → Kind → Type 0
 IsOneOf place kind other other_kind at third = ((at ≡ place) × (third ≡ kind)) ⊎ ((at ≡ other) × (third ≡ other_kind))
 
-pub first_as_cell : StandsForNear write_read_write first_write kinds.Write the_read kinds.Read near_as_cells 0
+pub first_as_cell : StandsForPair (control_part write_read_write) (deed_of first_write kinds.Write) (deed_of the_read kinds.Read) near_as_cells 0
 unfolding updated
 first_as_cell = record {
   front = [];
@@ -213,7 +213,7 @@ first_as_cell = record {
       ) x.0 third x.2 x.1;
 }
 
-pub last_as_cell : StandsForNear write_read_write the_read kinds.Read last_write kinds.Write near_as_cells 1
+pub last_as_cell : StandsForPair (control_part write_read_write) (deed_of the_read kinds.Read) (deed_of last_write kinds.Write) near_as_cells 1
 unfolding updated
 last_as_cell = record {
   front = [];
@@ -242,16 +242,16 @@ its_pairs one two k m near parallel =
     each_pair (λ first kind between second other_kind.
     ((entry : Entry) (third : Kind) → Contains between entry → cell_access entry.request.act ≡ Some (access_of third 0) →
     rule_between kind third ≡ Race → rule_between third other_kind ≡ Race → ⊥) →
-    (pair_cell : ℕ) × StandsForNear write_read_write first kind second other_kind near_as_cells pair_cell)
+    (pair_cell : ℕ) × StandsForPair (control_part write_read_write) (deed_of first kind) (deed_of second other_kind) near_as_cells pair_cell)
     (λ k m q p none.
-    (1, subst₂ (λ v w. StandsForNear write_read_write the_read v last_write w near_as_cells 1) (sym (kind_of q)) (sym (kind_of p)) last_as_cell))
+    (1, subst₂ (λ v w. StandsForPair (control_part write_read_write) (deed_of the_read v) (deed_of last_write w) near_as_cells 1) (sym (kind_of q)) (sym (kind_of p)) last_as_cell))
     (λ k m q p none. absurd (none the_read kinds.Read (contains-head the_read (the_split ∷ [])) refl
     (subst (λ z. rule_between z kinds.Read ≡ Race) (sym (kind_of q)) refl) (subst (λ z. rule_between kinds.Read z ≡ Race) (sym (kind_of p)) refl)))
     (λ k m q p none.
-    (0, subst₂ (λ v w. StandsForNear write_read_write first_write v the_read w near_as_cells 0) (sym (kind_of q)) (sym (kind_of p)) first_as_cell))
+    (0, subst₂ (λ v w. StandsForPair (control_part write_read_write) (deed_of first_write v) (deed_of the_read w) near_as_cells 0) (sym (kind_of q)) (sym (kind_of p)) first_as_cell))
     near.later two near.between one near.earlier near.stand k m near.first_is near.second_is near.none_between
 
-pub with_first_read : StandsForNear write_read_write first_write kinds.Write the_read kinds.Read with_first_as_cells 0
+pub with_first_read : StandsForPair (control_part write_read_write) (deed_of first_write kinds.Write) (deed_of the_read kinds.Read) with_first_as_cells 0
 unfolding updated
 with_first_read = record {
   front = [];
@@ -276,7 +276,7 @@ with_first_read = record {
       ) x.0 third x.2 x.1;
 }
 
-pub with_first_last : StandsForNear write_read_write first_write kinds.Write last_write kinds.Write with_first_as_cells 1
+pub with_first_last : StandsForPair (control_part write_read_write) (deed_of first_write kinds.Write) (deed_of last_write kinds.Write) with_first_as_cells 1
 unfolding updated
 with_first_last = record {
   front = [];
@@ -364,7 +364,7 @@ not_by_neighbours pairs =
 
 -- ---- behind another address
 
-pub second_as_first : StandsForPair (control_part both_calls_write) 7 kinds.Write 8 kinds.Write called_again 0
+pub second_as_first : StandsForPair (control_part both_calls_write) (deed 7 kinds.Write) (deed 8 kinds.Write) called_again 0
 unfolding updated
 second_as_first = record {
   front = second_call;

@@ -32,7 +32,7 @@ use Rattle.model_races.specs.Accesses.{cell_access}
 use Rattle.model_races.specs.Judged.{IsJudged}
 use Rattle.law_traces.specs.Locations.{access_of, Accesses, HasRefusal, HasRaceAt}
 use Rattle.law_traces.specs.Sets.{HasRaceBetween}
-use Rattle.law_traces.specs.Pairs.{IsNear, HasNearRaceAt, StandsForPair, HasRefusedPair}
+use Rattle.law_traces.specs.Pairs.{IsNear, HasNearRaceAt, StandsForPair, HasRefusedPair, deed_of}
 use Rattle.law_traces.specs.Laws.{NearPairLaw, PairCellLaw, KeptPairsLaw}
 use Rattle.law_traces.proofs.Histories.{none_in, legal_part, extends_earlier, extends_self, parallel_stays, begun_by}
 use Rattle.law_traces.proofs.Locations.{race_back, accesses_same, location_law}
@@ -341,7 +341,7 @@ kept_pairs_law shape kept_shape H G j i c pairs = ((λ r. to ((near_pair_law sha
 
     -- a cell that stands for a near pair is refused where its strands are parallel
     verdict : (first : Entry) (kind : Kind) (second : Entry) (other_kind : Kind) (near : IsNear H c first kind second other_kind) (pair_cell : ℕ) →
-        StandsForPair here first.request.strand kind second.request.strand other_kind G pair_cell →
+        StandsForPair here (deed_of first kind) (deed_of second other_kind) G pair_cell →
         HasRefusal G pair_cell ↔ ((rule_between kind other_kind ≡ Race) × IsParallel here first.request.strand second.request.strand)
     verdict one k two m near d stands =
         pair_cell_law here legal kept_shape G i one.request.strand two.request.strand

@@ -18,7 +18,7 @@ use Rattle.model_histories.specs.Legal.{Belongs, IsLegal}
 use Rattle.model_races.specs.Verdicts.{IsRefused}
 use Rattle.model_races.specs.Reducers.{steps_of, read_at, granted_reads}
 use Rattle.model_races.specs.ViewReads.{Completes, HasViewRace}
-use Rattle.model_races.specs.ReducerVerdicts.{IsRightFor, ReducersAreJudged}
+use Rattle.model_races.specs.ReducerVerdicts.{IsRightFor, ReducersAreJudged, reads_before}
 use Rattle.law_traces.specs.Locations.{IsReadOf, Reads, HasReadRefusal, HasViewRaceAt}
 use Rattle.law_traces.specs.Laws.{ReducerLaw}
 use Rattle.law_traces.proofs.Histories.{none_in, extends_earlier}
@@ -123,7 +123,7 @@ listed shape (e ∷ H) l one h r is u = elim (contains-cases e one H h) [
 right_read : (shape : Shape) (entry : Entry) (entries : Entries) (reducer : ℕ) → ReducersAreJudged shape (entry ∷ entries) → IsReadOf entry.request.act reducer →
     (whole : History) → Completes whole (control_part entries) → IsRefused entry.answer ↔ HasViewRace whole (granted_reads entries) entry.request.strand reducer
 right_read shape e H r judged is whole completes =
-    let right : IsRightFor shape.monoids (control_part H) (steps_of H) (granted_reads H) e.request.strand e.request.act e.answer = judged.1 in
+    let right : IsRightFor (reads_before shape.monoids H) e.request.strand e.request.act e.answer = judged.1 in
     elim is [
       | inl t ↦ (let put = rw t.1 at right in put.refused whole completes)
       | inr t ↦ (let get = rw t at right in get.0.refused whole completes)

@@ -17,7 +17,7 @@ use Rattle.law_traces.specs.Locations.{HasRefusal}
 use Rattle.law_traces.specs.Sets.{AccessesAt, HaveSameAccesses}
 use Rattle.law_traces.specs.Moves.{IsMoved, IsLike, IsOfOneLeftOut}
 use Rattle.law_traces.specs.Functions.{begins_at, IsAskedInside}
-use Rattle.law_traces.specs.Pairs.{IsNear, StandsForPair, StandsForNear, HasItsPairs}
+use Rattle.law_traces.specs.Pairs.{IsNear, StandsForPair, HasItsPairs, deed, deed_of}
 use Rattle.law_traces.specs.Omissions.{LeavesOut, IsRepeated, IsReadByWriter, IsOfCell, IsOfOther}
 use Rattle.law_traces.specs.Epochs.{HasNoOpenBlock, renumbered, moved, AskChanged, unchanged}
 use Rattle.law_traces.specs.CleanTraces.{SpeaksForOrders}
@@ -237,15 +237,15 @@ pub record WorkedHistories : Type 0 where
   pub last_near : IsNear write_read_write 0 the_read kinds.Read last_write kinds.Write
   pub writes_not_near : IsNear write_read_write 0 first_write kinds.Write last_write kinds.Write → ⊥
   pub near_as_cells_judged : IsJudged two_cells near_as_cells
-  pub first_as_cell : StandsForNear write_read_write first_write kinds.Write the_read kinds.Read near_as_cells 0
-  pub last_as_cell : StandsForNear write_read_write the_read kinds.Read last_write kinds.Write near_as_cells 1
+  pub first_as_cell : StandsForPair (control_part write_read_write) (deed_of first_write kinds.Write) (deed_of the_read kinds.Read) near_as_cells 0
+  pub last_as_cell : StandsForPair (control_part write_read_write) (deed_of the_read kinds.Read) (deed_of last_write kinds.Write) near_as_cells 1
   pub its_pairs : HasItsPairs write_read_write 0 near_as_cells
   pub near_as_cells_clean : HasRefusal near_as_cells 0 → ⊥
   pub near_as_cells_refused : HasRefusal near_as_cells 1
   -- where the pairs with the first access alone are written, the race of the other two is lost
   pub with_first_judged : IsJudged two_cells with_first_as_cells
-  pub with_first_read : StandsForNear write_read_write first_write kinds.Write the_read kinds.Read with_first_as_cells 0
-  pub with_first_last : StandsForNear write_read_write first_write kinds.Write last_write kinds.Write with_first_as_cells 1
+  pub with_first_read : StandsForPair (control_part write_read_write) (deed_of first_write kinds.Write) (deed_of the_read kinds.Read) with_first_as_cells 0
+  pub with_first_last : StandsForPair (control_part write_read_write) (deed_of first_write kinds.Write) (deed_of last_write kinds.Write) with_first_as_cells 1
   pub with_first_clean : (cell : ℕ) → HasRefusal with_first_as_cells cell → ⊥
   pub not_its_pairs : HasItsPairs write_read_write 0 with_first_as_cells → ⊥
   -- so is one where only pairs with no access at all between them are written: one that conflicts with one of the two leaves them near
@@ -257,7 +257,7 @@ pub record WorkedHistories : Type 0 where
   pub neighbours_clean : (cell : ℕ) → HasRefusal neighbours_as_cells cell → ⊥
   pub not_by_neighbours : HasItsPairs write_then_reads 0 neighbours_as_cells → ⊥
   -- the pair of a local in the second call of a function, as the cell of one in the first
-  pub second_as_first : StandsForPair (control_part both_calls_write) 7 kinds.Write 8 kinds.Write called_again 0
+  pub second_as_first : StandsForPair (control_part both_calls_write) (deed 7 kinds.Write) (deed 8 kinds.Write) called_again 0
   -- the first of two spawns is left out, in whose function nothing is accessed
   pub two_spawns_judged : IsJudged two_cells two_spawns
   pub two_spawns_refused : HasRefusal two_spawns 0

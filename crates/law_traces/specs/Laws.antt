@@ -20,7 +20,7 @@ use Rattle.law_traces.specs.Locations.{Accesses, HasRefusal, HasRaceAt, HasReadR
 use Rattle.law_traces.specs.Sets.{HasRaceBetween, AreCovered, HaveSameAccesses}
 use Rattle.law_traces.specs.Moves.{IsBelow, IsMoved, AreCoveredBehind, IsLike, IsOfOneLeftOut}
 use Rattle.law_traces.specs.Functions.{begins_at, IsAskedInside}
-use Rattle.law_traces.specs.Pairs.{HasNearRaceAt, StandsForPair, HasItsPairs, HasRefusedPair}
+use Rattle.law_traces.specs.Pairs.{HasNearRaceAt, StandsForPair, HasItsPairs, HasRefusedPair, deed}
 use Rattle.law_traces.specs.Omissions.{LeavesOut, IsRepeated, IsReadByWriter, IsOfCell, IsOfOther}
 use Rattle.law_traces.specs.Epochs.{HasNoOpenBlock, moved, AskChanged, unchanged}
 use Rattle.law_traces.specs.CleanTraces.{SpeaksForOrders}
@@ -130,7 +130,7 @@ abbrev pub PairCellLaw : Type 0
 PairCellLaw =
     (history : History) → Legal history → (kept_shape : Shape) (kept : Entries) → IsJudged kept_shape kept → (strand other : ℕ) →
     Begun history strand → Begun history other → (kind other_kind : Kind) (pair_cell : ℕ) →
-    StandsForPair history strand kind other other_kind kept pair_cell →
+    StandsForPair history (deed strand kind) (deed other other_kind) kept pair_cell →
     HasRefusal kept pair_cell ↔ ((rule_between kind other_kind ≡ Race) × IsParallel history strand other)
 
 -- so a cell may be left out where for each near pair of it a cell stands, in the same history or in another one: some access of it is refused

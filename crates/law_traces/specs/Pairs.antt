@@ -32,24 +32,31 @@ HasNearRaceAt dag entries cell =
     (first second : Entry) × (kind other_kind : Kind) × IsNear entries cell first kind second other_kind ×
     IsParallel dag first.request.strand second.request.strand
 
+-- what a strand does to a cell
+pub record Deed : Type 0 where
+  pub strand : ℕ
+  pub kind : Kind
+
+abbrev pub deed : ℕ → Kind → Deed
+deed strand kind = record { strand = strand; kind = kind }
+
 -- To the cell is done what two strands do, of these kinds and behind one address where theirs are behind another, and nothing else. The strands
 -- are of the dag, and the cell may be of another history.
-pub record StandsForPair (dag : History) (strand : ℕ) (kind : Kind) (other : ℕ) (other_kind : Kind) (kept : Entries) (cell : ℕ) : Type 0 where
+pub record StandsForPair (dag : History) (one other : Deed) (kept : Entries) (cell : ℕ) : Type 0 where
   pub front : Address
   pub kept_front : Address
   pub rest : Address
   pub other_rest : Address
-  pub strand_at : address dag strand ≡ front ++ rest
-  pub other_at : address dag other ≡ front ++ other_rest
-  pub done : AccessesAt kept (kept_front ++ rest) kind cell
-  pub other_done : AccessesAt kept (kept_front ++ other_rest) other_kind cell
+  pub strand_at : address dag one.strand ≡ front ++ rest
+  pub other_at : address dag other.strand ≡ front ++ other_rest
+  pub done : AccessesAt kept (kept_front ++ rest) one.kind cell
+  pub other_done : AccessesAt kept (kept_front ++ other_rest) other.kind cell
   pub only : (at : Address) (third : Kind) → AccessesAt kept at third cell →
-      ((at ≡ kept_front ++ rest) × (third ≡ kind)) ⊎ ((at ≡ kept_front ++ other_rest) × (third ≡ other_kind))
+      ((at ≡ kept_front ++ rest) × (third ≡ one.kind)) ⊎ ((at ≡ kept_front ++ other_rest) × (third ≡ other.kind))
 
--- a cell that stands for a near pair
-abbrev pub StandsForNear : Entries → Entry → Kind → Entry → Kind → Entries → ℕ → Type 0
-StandsForNear whole first kind second other_kind kept pair_cell =
-    StandsForPair (control_part whole) first.request.strand kind second.request.strand other_kind kept pair_cell
+-- what the strand of an entry does
+abbrev pub deed_of : Entry → Kind → Deed
+deed_of entry kind = deed entry.request.strand kind
 
 -- For each near pair of the cell the other history has a cell that stands for it. Pairs of strands that are not parallel, as those of one
 -- strand, need none.
@@ -57,10 +64,10 @@ abbrev pub HasItsPairs : Entries → ℕ → Entries → Type 0
 HasItsPairs whole cell kept =
     (first second : Entry) (kind other_kind : Kind) → IsNear whole cell first kind second other_kind →
     IsParallel (control_part whole) first.request.strand second.request.strand →
-    (pair_cell : ℕ) × StandsForNear whole first kind second other_kind kept pair_cell
+    (pair_cell : ℕ) × StandsForPair (control_part whole) (deed_of first kind) (deed_of second other_kind) kept pair_cell
 
 -- some access of a cell that stands for a near pair is refused
 abbrev pub HasRefusedPair : Entries → ℕ → Entries → Type 0
 HasRefusedPair whole cell kept =
     (first second : Entry) × (kind other_kind : Kind) × (pair_cell : ℕ) × IsNear whole cell first kind second other_kind ×
-    StandsForNear whole first kind second other_kind kept pair_cell × HasRefusal kept pair_cell
+    StandsForPair (control_part whole) (deed_of first kind) (deed_of second other_kind) kept pair_cell × HasRefusal kept pair_cell

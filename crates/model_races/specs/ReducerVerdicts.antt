@@ -23,18 +23,31 @@ abbrev pub IsGetValue : List Monoid → Steps → ℕ → ℕ → ℕ → Type 0
 IsGetValue monoids steps strand reducer value =
     (view : View) × IsValue (reducer_of (monoid_of monoids reducer)) (items_of reducer steps) strand view × (view_number view ≡ Some value)
 
--- after this control history, these steps and these granted reads this is the right answer to the strand's act, where that is a put or a
--- get
-abbrev pub IsRightFor : List Monoid → History → Steps → List ReducerRead → ℕ → Act → Answer → Type 0
-IsRightFor monoids history steps earlier strand (Put reducer value) answer = IsRightRead history earlier strand reducer kind.Put answer
-IsRightFor monoids history steps earlier strand (Get reducer) answer =
-    IsRightRead history earlier strand reducer kind.Get answer × IfValue answer (IsGetValue monoids steps strand reducer)
-IsRightFor monoids history steps earlier strand act answer = Unit {0}
+-- what the right answer to a put or a get hangs on: the control history, the steps and the granted reads before it
+pub record ReadsBefore : Type 0 where
+  pub monoids : List Monoid
+  pub history : History
+  pub steps : Steps
+  pub earlier : List ReducerRead
+
+abbrev pub reads_before : List Monoid → Entries → ReadsBefore
+reads_before monoids entries = record {
+  monoids = monoids;
+  history = control_part entries;
+  steps = steps_of entries;
+  earlier = granted_reads entries;
+}
+
+-- behind these this is the right answer to the strand's act, where that is a put or a get
+abbrev pub IsRightFor : ReadsBefore → ℕ → Act → Answer → Type 0
+IsRightFor before strand (Put reducer value) answer = IsRightRead before.history before.earlier strand reducer kind.Put answer
+IsRightFor before strand (Get reducer) answer =
+    IsRightRead before.history before.earlier strand reducer kind.Get answer × IfValue answer (IsGetValue before.monoids before.steps strand reducer)
+IsRightFor before strand act answer = Unit {0}
 
 -- each put and each get was answered rightly when it came
 abbrev pub ReducersAreJudged : Shape → Entries → Type 0
 ReducersAreJudged shape [] = Unit {0}
 ReducersAreJudged shape (entry ∷ entries) =
     ReducersAreJudged shape entries ×
-    IsRightFor shape.monoids (control_part entries) (steps_of entries)
-    (granted_reads entries) entry.request.strand entry.request.act entry.answer
+    IsRightFor (reads_before shape.monoids entries) entry.request.strand entry.request.act entry.answer

@@ -139,7 +139,7 @@ set-read next items chain xs y here place len inside within = (
 )
 
 -- the items of a row are moved one after another
-pub evened-none : (old : List Place) (items : List ℕ) (start group gap : ℕ) → IsEvened old old items start 0 group gap 0
+pub evened-none : (old : List Place) (items : List ℕ) (start group gap : ℕ) → IsEvened old old (record { items = items; start = start; group = group; gap = gap }) 0 0
 evened-none old items start group gap = record {
   len = refl;
   nexts = refl;
@@ -152,7 +152,7 @@ evened-none old items start group gap = record {
   locals_behind = λ place l within. refl;
 }
 
-pub evened-more : (next items : List ℕ) → IsChain next items → (old new more : List Place) (start count group gap bound item : ℕ) → IsEvened old new items start count group gap bound → length old ≡ length items → start + count < length items → item ≡ get_or items (start + count) 0 → length more ≡ length new → groups_of more ≡ set (groups_of new) item group → locals_of more ≡ set (locals_of new) item bound → nexts_of more ≡ nexts_of new → IsEvened old more items start (count + 1) group gap (bound + gap)
+pub evened-more : (next items : List ℕ) → IsChain next items → (old new more : List Place) (start count group gap bound item : ℕ) → IsEvened old new (record { items = items; start = start; group = group; gap = gap }) count bound → length old ≡ length items → start + count < length items → item ≡ get_or items (start + count) 0 → length more ≡ length new → groups_of more ≡ set (groups_of new) item group → locals_of more ≡ set (locals_of new) item bound → nexts_of more ≡ nexts_of new → IsEvened old more (record { items = items; start = start; group = group; gap = gap }) (count + 1) (bound + gap)
 evened-more next items chain old new more start count group gap bound item e len within is more_len groups locals nexts =
     let here = start + count in
     let group_read : (place : ℕ) → place < length items → (place ≡ here → get_or (groups_of more) (get_or items place 0) 0 ≡ group) × (place ≢ here → get_or (groups_of more) (get_or items place 0) 0 ≡ get_or (groups_of new) (get_or items place 0) 0) = λ place known. rw (groups, is) (set-read next items chain (groups_of new) group here place (omega (arith, length-groups new, e.len, len)) within known) in
@@ -184,7 +184,7 @@ pub record IsBetween (order : List ℕ) (old : List Place) (items : List ℕ) (s
   pub behind : place_of group order * group_width + bound < get_or (labels_along (keys_of order old) items) (start + count) 0
 
 -- items moved between those around them
-module _ (order : List ℕ) (old new : List Place) (items : List ℕ) (start count group gap bound : ℕ) (e : IsEvened old new items start count group gap bound) (len : length old ≡ length items) (numbered : IsNumbered items) where
+module _ (order : List ℕ) (old new : List Place) (items : List ℕ) (start count group gap bound : ℕ) (e : IsEvened old new (record { items = items; start = start; group = group; gap = gap }) count bound) (len : length old ≡ length items) (numbered : IsNumbered items) where
   new_len : length new ≡ length items
   new_len = e.len ∙ len
 
@@ -248,7 +248,7 @@ module _ (order : List ℕ) (old new : List Place) (items : List ℕ) (start cou
       ]
 
 -- where the items of a row went, and the others did not
-module _ (next : List ℕ) (items : List ℕ) (chain : IsChain next items) (old new : List Place) (start count group gap bound : ℕ) (e : IsEvened old new items start count group gap bound) where
+module _ (next : List ℕ) (items : List ℕ) (chain : IsChain next items) (old new : List Place) (start count group gap bound : ℕ) (e : IsEvened old new (record { items = items; start = start; group = group; gap = gap }) count bound) where
   pub group_inside : (item : ℕ) → item < length items → start ≤ place_of item items → place_of item items < start + count → get_or (groups_of new) item 0 ≡ group
   group_inside item known from to = rw (item_at chain item known) at (e.inside (place_of item items) from to)
 

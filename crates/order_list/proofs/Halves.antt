@@ -16,7 +16,7 @@ use Rattle.order_list.proofs.Rises.{length-labels_along, label_of, label_past}
 use Rattle.order_list.proofs.Groupings.{IsBetween, evened-room, length-keys, label_is, evened-rising, group_inside, group_before, group_behind, moved-small, group_known, key_is, ranks-rise, between-same}
 
 -- each item of a row is in the group now, and each other one where it was
-moved : (next items : List ℕ) → IsChain next items → (old new : List Place) (start count group gap bound : ℕ) → IsEvened old new items start count group gap bound → (item : ℕ) → item < length items → ((start ≤ place_of item items) × (place_of item items < start + count) × (get_or (groups_of new) item 0 ≡ group)) ⊎ (get_or (groups_of new) item 0 ≡ get_or (groups_of old) item 0)
+moved : (next items : List ℕ) → IsChain next items → (old new : List Place) (start count group gap bound : ℕ) → IsEvened old new (record { items = items; start = start; group = group; gap = gap }) count bound → (item : ℕ) → item < length items → ((start ≤ place_of item items) × (place_of item items < start + count) × (get_or (groups_of new) item 0 ≡ group)) ⊎ (get_or (groups_of new) item 0 ≡ get_or (groups_of old) item 0)
 moved next items chain old new start count group gap bound e item known =
     elim (cases_lt (place_of item items) start) [
       | inl l ↦ inr (group_before next items chain old new start count group gap bound e item known l)
@@ -28,7 +28,7 @@ moved next items chain old new start count group gap bound e item known =
 
 module _ {order firsts : List ℕ} {places : List Place} {items : List ℕ} (grouped : IsGrouped order firsts places items) (group : ℕ) (known : group < length order) where
   -- all items of a group at other places of it
-  pub evened : (new : List Place) (count gap bound : ℕ) → IsGroupRow places items (get_or firsts group 0) count → IsEvened places new items (place_of (get_or firsts group 0) items) count group gap bound → 0 < gap → bound < group_width → IsGrouped order firsts new items
+  pub evened : (new : List Place) (count gap bound : ℕ) → IsGroupRow places items (get_or firsts group 0) count → IsEvened places new (record { items = items; start = place_of (get_or firsts group 0) items; group = group; gap = gap }) count bound → 0 < gap → bound < group_width → IsGrouped order firsts new items
   evened new count gap bound row e some fits =
       let start = place_of (get_or firsts group 0) items in
       let same : (item : ℕ) → item < length items → get_or (groups_of new) item 0 ≡ get_or (groups_of places) item 0 = λ item inside.
@@ -74,7 +74,7 @@ module _ {order firsts : List ℕ} {places : List Place} {items : List ℕ} (gro
       )
 
   -- so there is room behind it
-  pub evened-behind : (new : List Place) (count gap : ℕ) → IsGroupRow places items (get_or firsts group 0) count → IsEvened places new items (place_of (get_or firsts group 0) items) count group gap 4294967295 → (item : ℕ) → item < length items → get_or (groups_of places) item 0 ≡ group → (get_or (locals_of new) item 0 + gap < group_width) × (get_or (keys_of order new) item 0 + gap ≤ get_or (labels_along (keys_of order new) items) (place_of item items + 1) 0)
+  pub evened-behind : (new : List Place) (count gap : ℕ) → IsGroupRow places items (get_or firsts group 0) count → IsEvened places new (record { items = items; start = place_of (get_or firsts group 0) items; group = group; gap = gap }) count 4294967295 → (item : ℕ) → item < length items → get_or (groups_of places) item 0 ≡ group → (get_or (locals_of new) item 0 + gap < group_width) × (get_or (keys_of order new) item 0 + gap ≤ get_or (labels_along (keys_of order new) items) (place_of item items + 1) 0)
   evened-behind new count gap row e item inside same =
       let start = place_of (get_or firsts group 0) items in
       let here = in_row count row item inside same in
@@ -179,7 +179,7 @@ module _ {order firsts : List ℕ} {places : List Place} {items : List ℕ} (gro
       }
 
   -- the items of a group's second half in a new group behind it
-  pub halved : (new : List Place) (count half middle gap bound : ℕ) → IsGroupRow places items (get_or firsts group 0) count → 0 < half → half < count → middle ≡ get_or items (place_of (get_or firsts group 0) items + half) 0 → IsEvened places new items (place_of middle items) (count - half) (length order) gap bound → 0 < gap → bound < group_width → length order + 1 ≤ most_items → IsGrouped wider (firsts ++ middle ∷ []) new items
+  pub halved : (new : List Place) (count half middle gap bound : ℕ) → IsGroupRow places items (get_or firsts group 0) count → 0 < half → half < count → middle ≡ get_or items (place_of (get_or firsts group 0) items + half) 0 → IsEvened places new (record { items = items; start = place_of middle items; group = length order; gap = gap }) (count - half) bound → 0 < gap → bound < group_width → length order + 1 ≤ most_items → IsGrouped wider (firsts ++ middle ∷ []) new items
   halved new count half middle gap bound row some less is e0 positive fits few =
       let start = place_of (get_or firsts group 0) items in
       let within : start + half < length items = omega (arith, row.row.within) in

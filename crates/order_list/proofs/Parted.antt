@@ -78,7 +78,7 @@ module _ {order firsts : List ℕ} {places : List Place} {items : List ℕ} (gro
         }
 
     -- these items in a new group behind that which they were in, of which others are left
-    pub parted : (new : List Place) (gap bound : ℕ) → begin ≢ get_or firsts group 0 → IsEvened places new items (place_of begin items) count (length order) gap bound →
+    pub parted : (new : List Place) (gap bound : ℕ) → begin ≢ get_or firsts group 0 → IsEvened places new (record { items = items; start = place_of begin items; group = length order; gap = gap }) count bound →
         0 < gap → bound < group_width → length order + 1 ≤ most_items →
         IsGrouped (insert order (place_of group order + 1) (length order)) (firsts ++ begin ∷ []) new items
     parted new gap bound other e positive fits few =

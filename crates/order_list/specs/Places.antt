@@ -65,22 +65,29 @@ pub record IsGroupRow (places : List Place) (items : List ℕ) (first count : �
   pub ends : place_of first items + count < length items →
       slice_index (groups_of places) (slice_index items (place_of first items + count)) ≢ slice_index (groups_of places) first
 
--- The items at `count` positions from `start` on now stand in `group`, each `gap` at least behind the one before it, and below `bound`.
-pub record IsEvened (old new : List Place) (items : List ℕ) (start count group gap bound : ℕ) : Type 0 where
+-- Where a row of items goes: those from `start` on, to `group`, each `gap` at least behind the one before it.
+pub record RowMove : Type 0 where
+  pub items : List ℕ
+  pub start : ℕ
+  pub group : ℕ
+  pub gap : ℕ
+
+-- So many items of the row have gone there, and stand below `bound`.
+pub record IsEvened (old new : List Place) (move : RowMove) (count bound : ℕ) : Type 0 where
   pub len : length new ≡ length old
   pub nexts : nexts_of new ≡ nexts_of old
-  pub inside : (place : ℕ) → start ≤ place → place < start + count → slice_index (groups_of new) (slice_index items place) ≡ group
-  pub steps : (place : ℕ) → start ≤ place → place + 1 < start + count →
-      slice_index (locals_of new) (slice_index items place) + gap ≤ slice_index (locals_of new) (slice_index items (place + 1))
-  pub below : (place : ℕ) → start ≤ place → place < start + count → slice_index (locals_of new) (slice_index items place) + gap ≤ bound
-  pub groups_before : (place : ℕ) → place < start →
-      slice_index (groups_of new) (slice_index items place) ≡ slice_index (groups_of old) (slice_index items place)
-  pub locals_before : (place : ℕ) → place < start →
-      slice_index (locals_of new) (slice_index items place) ≡ slice_index (locals_of old) (slice_index items place)
-  pub groups_behind : (place : ℕ) → start + count ≤ place → place < length items →
-      slice_index (groups_of new) (slice_index items place) ≡ slice_index (groups_of old) (slice_index items place)
-  pub locals_behind : (place : ℕ) → start + count ≤ place → place < length items →
-      slice_index (locals_of new) (slice_index items place) ≡ slice_index (locals_of old) (slice_index items place)
+  pub inside : (place : ℕ) → move.start ≤ place → place < move.start + count → slice_index (groups_of new) (slice_index move.items place) ≡ move.group
+  pub steps : (place : ℕ) → move.start ≤ place → place + 1 < move.start + count →
+      slice_index (locals_of new) (slice_index move.items place) + move.gap ≤ slice_index (locals_of new) (slice_index move.items (place + 1))
+  pub below : (place : ℕ) → move.start ≤ place → place < move.start + count → slice_index (locals_of new) (slice_index move.items place) + move.gap ≤ bound
+  pub groups_before : (place : ℕ) → place < move.start →
+      slice_index (groups_of new) (slice_index move.items place) ≡ slice_index (groups_of old) (slice_index move.items place)
+  pub locals_before : (place : ℕ) → place < move.start →
+      slice_index (locals_of new) (slice_index move.items place) ≡ slice_index (locals_of old) (slice_index move.items place)
+  pub groups_behind : (place : ℕ) → move.start + count ≤ place → place < length move.items →
+      slice_index (groups_of new) (slice_index move.items place) ≡ slice_index (groups_of old) (slice_index move.items place)
+  pub locals_behind : (place : ℕ) → move.start + count ≤ place → place < length move.items →
+      slice_index (locals_of new) (slice_index move.items place) ≡ slice_index (locals_of old) (slice_index move.items place)
 
 -- so many places behind an item are still in its group, and before the next item
 pub record HasRoom (order : List ℕ) (places : List Place) (item gap : ℕ) : Type 0 where

@@ -106,7 +106,7 @@ pub fn spread(places: &mut [Place], first: u32, count: u32, group: u32) -> u32
     requires few { length places.old ≤ most_items }
     requires row { IsRow (items_along places.old) first count }
     ensures evened { let items = items_along places.old in
-        IsEvened places.old places.new items (place_of first items) count group result 4294967295 }
+        IsEvened places.old places.new (record { items = items; start = place_of first items; group = group; gap = result }) count 4294967295 }
     ensures some { 4 ≤ result }
 {
     let distance = u32::MAX / count;

@@ -30,7 +30,7 @@ use Rattle.race_gate.specs.Accesses.{sort_of}
 use Rattle.model_races.specs.Memory.{leaves, effect_on_cell}
 use Rattle.model_races.specs.Verdicts.{IfValue, IsRightVerdict}
 use Rattle.model_races.specs.Reducers.{step_with, steps_of, read_at, granted_reads}
-use Rattle.model_races.specs.ReducerVerdicts.{IsRightFor}
+use Rattle.model_races.specs.ReducerVerdicts.{IsRightFor, ReadsBefore, reads_before}
 use Rattle.race_gate.specs.Books.{Books, Keeps, OptionKeepsStill, OptionKeepsOn, OptionKeepsSome, OptionKeepsRunning, OptionHasReducer, OptionAnswersAccess}
 use Rattle.model_histories.specs.States.{GateState}
 use Rattle.race_gate.specs.Kept.{AreBooksOf, IsKept}
@@ -62,24 +62,24 @@ record IsCellStep (number strand : ℕ) (act : Act) (answer : Answer) : Type 0 w
   no_event : event_between strand act answer ≡ None
   step : step_with None strand act answer ≡ other strand
   no_read : read_at number strand act answer ≡ None
-  right : (monoids : List Monoid) (history : History) (steps : Steps) (earlier : List ReducerRead) → IsRightFor monoids history steps earlier strand act answer
+  right : (before : ReadsBefore) → IsRightFor before strand act answer
 
 cell-step : (number strand : ℕ) (act : Act) (access : CellAccess) (answer : Answer) → cell_access act ≡ Some access → IsCellStep number strand act answer
-cell-step number strand (Read location) access answer is = record { no_event = refl; step = refl; no_read = refl; right = λ monoids history steps earlier. tt }
-cell-step number strand (Write location value) access answer is = record { no_event = refl; step = refl; no_read = refl; right = λ monoids history steps earlier. tt }
-cell-step number strand (Bump location value) access answer is = record { no_event = refl; step = refl; no_read = refl; right = λ monoids history steps earlier. tt }
+cell-step number strand (Read location) access answer is = record { no_event = refl; step = refl; no_read = refl; right = λ before. tt }
+cell-step number strand (Write location value) access answer is = record { no_event = refl; step = refl; no_read = refl; right = λ before. tt }
+cell-step number strand (Bump location value) access answer is = record { no_event = refl; step = refl; no_read = refl; right = λ before. tt }
 cell-step number strand act access answer is = absurd (cc)
 
 -- what an event of control is to the reducers: no read
 record IsControlStep (number strand : ℕ) (act : Act) (answer : Answer) : Type 0 where
   no_read : read_at number strand act answer ≡ None
-  right : (monoids : List Monoid) (history : History) (steps : Steps) (earlier : List ReducerRead) → IsRightFor monoids history steps earlier strand act answer
+  right : (before : ReadsBefore) → IsRightFor before strand act answer
 
 control-step : (number strand : ℕ) (act : Act) (answer : Answer) → IsControl act → IsControlStep number strand act answer
-control-step number strand Spawn answer is = record { no_read = refl; right = λ monoids history steps earlier. tt }
-control-step number strand Sync answer is = record { no_read = refl; right = λ monoids history steps earlier. tt }
-control-step number strand Call answer is = record { no_read = refl; right = λ monoids history steps earlier. tt }
-control-step number strand Return answer is = record { no_read = refl; right = λ monoids history steps earlier. tt }
+control-step number strand Spawn answer is = record { no_read = refl; right = λ before. tt }
+control-step number strand Sync answer is = record { no_read = refl; right = λ before. tt }
+control-step number strand Call answer is = record { no_read = refl; right = λ before. tt }
+control-step number strand Return answer is = record { no_read = refl; right = λ before. tt }
 control-step number strand act answer is = absurd is
 
 -- an access of a reducer is no event
@@ -192,7 +192,7 @@ module _ (shape : Shape) (entry : Entry) (entries : Entries) where
   -- what an access of a reducer makes of them, and that its answer is right
   record IsDone (new : Option Books) : Type 0 where
     belongs : Belongs entry.request.act entry.answer
-    right : IsRightFor shape.monoids (control_part entries) (steps_of entries) (granted_reads entries) entry.request.strand entry.request.act entry.answer
+    right : IsRightFor (reads_before shape.monoids entries) entry.request.strand entry.request.act entry.answer
     books : AreBooksOf shape (entry ∷ entries) new
 
   books-reducer : (old new : Option Books) (number : ℕ) → number ≡ suc (length entries) → event_of entry ≡ None → Running (control_part entries) entry.request.strand →
@@ -204,8 +204,8 @@ module _ (shape : Shape) (entry : Entry) (entries : Entries) where
       let monoids = answers.monoids ∙ books.0 in
       record {
         belongs = done.belongs;
-        right = subst (λ h. IsRightFor shape.monoids h (steps_of entries) (granted_reads entries) entry.request.strand entry.request.act entry.answer) (steps-control entries)
-            (subst (λ list. IsRightFor list (control_steps (steps_of entries)) (steps_of entries) (granted_reads entries) entry.request.strand entry.request.act entry.answer)
+        right = subst (λ h. IsRightFor (record (reads_before shape.monoids entries) { history = h }) entry.request.strand entry.request.act entry.answer) (steps-control entries)
+            (subst (λ list. IsRightFor (record (reads_before list entries) { history = control_steps (steps_of entries) }) entry.request.strand entry.request.act entry.answer)
             monoids done.right);
         books = (
           monoids,
@@ -269,7 +269,7 @@ module _ (state : GateState) (strands : Roster) (shadow : List Cell) (books : Op
   entered : (after : Roster) (marks : List Cell) (others : Option Books) (memory : List ℕ) → Belongs entry.request.act entry.answer →
       MatchOption (event_of entry) (Unit {0}) (Allowed (control_part state.history)) →
       MatchOption (cell_access entry.request.act) (Unit {0}) (λ access. IsRightVerdict state.history entry.request.strand access entry.answer) →
-      IsRightFor state.shape.monoids (control_part state.history) (steps_of state.history) (granted_reads state.history) entry.request.strand entry.request.act
+      IsRightFor (reads_before state.shape.monoids state.history) entry.request.strand entry.request.act
       entry.answer →
       TakesPlace (effect_on_cell entry.request.act entry.answer) state.memory memory → Follows after (control_part (entry ∷ state.history)) →
       Remembers marks (control_part (entry ∷ state.history)) (granted (entry ∷ state.history)) → length marks ≡ length shadow →
@@ -303,7 +303,7 @@ module _ (state : GateState) (strands : Roster) (shadow : List Cell) (books : Op
       let remembers : Remembers shadow (goes.event ∷ control_part state.history) (granted state.history) =
       later_law shadow (granted state.history) (control_part state.history) (goes.event ∷ control_part state.history) (goes.event ∷ [], refl) legal kept.remembers in
       let step = control-step (suc (length state.history)) entry.request.strand entry.request.act entry.answer is_control in
-      entered after shadow others state.memory goes.belongs (rw goes.is (last_allowed legal)) (rw no_access tt) (step.right _ _ _ _)
+      entered after shadow others state.memory goes.belongs (rw goes.is (last_allowed legal)) (rw no_access tt) (step.right (reads_before state.shape.monoids state.history))
       (rw (no_access-leaves entry.request.act entry.answer no_access) (record { len = refl; each = λ cell below. refl }))
       (subst (λ h. Follows after h) (sym part) goes.follows)
       (subst (λ h. Remembers shadow h (granted (entry ∷ state.history))) (sym part)
@@ -324,7 +324,7 @@ module _ (state : GateState) (strands : Roster) (shadow : List Cell) (books : Op
         witness = judged.witness;
         value = value-held entry.answer _ _ (kept.right.memory.each access.location in_range) value;
       } in
-      entered strands marks books memory belongs (rw step.no_event tt) (rw is verdict) (step.right _ _ _ _) takes
+      entered strands marks books memory belongs (rw step.no_event tt) (rw is verdict) (step.right (reads_before state.shape.monoids state.history)) takes
       (subst (λ h. Follows strands h) (sym part) kept.follows)
       (subst (λ h. Remembers marks h (granted (entry ∷ state.history))) (sym part)
       (subst (λ xs. Remembers marks (control_part state.history) xs) (sym (access-granted entry state.history access is))

@@ -7,7 +7,7 @@ use Rattle.model_histories.specs.Entries.{Entries, control_part}
 use Rattle.model_histories.specs.Shapes.{Shape}
 use Rattle.model_races.specs.Reducers.{steps_of, granted_reads}
 use Rattle.model_races.specs.ViewReads.{Completes}
-use Rattle.model_races.specs.ReducerVerdicts.{IsRightFor, ReducersAreJudged}
+use Rattle.model_races.specs.ReducerVerdicts.{IsRightFor, ReducersAreJudged, reads_before}
 use Rattle.model_races.specs.Laws.{ReadLaw}
 use Rattle.race_gate.proofs.Races.{extends-part}
 
@@ -19,7 +19,7 @@ completes-earlier whole longer history (middle, is) completes =
 
 -- each verdict was right when it came
 read-then : (shape : Shape) (later entries : Entries) (entry : Entry) → ReducersAreJudged shape (later ++ entry ∷ entries) →
-    IsRightFor shape.monoids (control_part entries) (steps_of entries) (granted_reads entries) entry.request.strand entry.request.act entry.answer
+    IsRightFor (reads_before shape.monoids entries) entry.request.strand entry.request.act entry.answer
 read-then shape [] entries entry judged = judged.1
 read-then shape (newer ∷ later) entries entry judged = read-then shape later entries entry judged.0
 

@@ -87,7 +87,8 @@ pub record IsRefusal (history : History) (earlier : List ReducerRead) (strand re
 pub record IsAnswered (steps : Steps) (earlier : List ReducerRead)
     (number strand : ℕ) (act : Act) (answer : Answer) (books : Books) : Type 0 where
   pub belongs : Belongs act answer
-  pub right : IsRightFor books.views.monoids (control_steps steps) steps earlier strand act answer
+  pub right : IsRightFor
+      (record { monoids = books.views.monoids; history = control_steps steps; steps = steps; earlier = earlier }) strand act answer
   pub keeps : Keeps books (step_with None strand act answer ∷ steps) (earlier ++ option_to_list (read_at number strand act answer))
 
 -- it is so after all steps that were kept

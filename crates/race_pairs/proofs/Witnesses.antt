@@ -27,7 +27,7 @@ use Rattle.model_races.specs.Accesses.{in_cell, cell_access, is_granted, access_
 use Rattle.model_races.specs.Reducers.{steps_of, read_at, granted_reads}
 use Rattle.model_races.specs.Verdicts.{IsRightVerdict}
 use Rattle.model_races.specs.ViewReads.{IsTrueReadWitness}
-use Rattle.model_races.specs.ReducerVerdicts.{IsRightFor}
+use Rattle.model_races.specs.ReducerVerdicts.{IsRightFor, reads_before}
 use Rattle.model_races.specs.Judged.{IsJudged}
 use Rattle.race_pairs.specs.Makers.{HasNumber}
 use Rattle.race_pairs.specs.declared.refusal.Refusal.{Refusal}
@@ -112,7 +112,7 @@ by_read entries strand reducer new rule witness t =
 
 names : (monoids : List Monoid) (entries : Entries) (strand : ℕ) (act : Act) (rule : Rule) (witness : Witness) → Belongs act (Refused rule witness) →
     MatchOption (cell_access act) (Unit {0}) (λ access. IsRightVerdict entries strand access (Refused rule witness)) →
-    IsRightFor monoids (control_part entries) (steps_of entries) (granted_reads entries) strand act (Refused rule witness) →
+    IsRightFor (reads_before monoids entries) strand act (Refused rule witness) →
     IsNamed entries witness.entry witness.strand witness.kind
 names monoids entries strand (Read cell) rule witness b v f = named_access entries (access_of_witness cell witness) v.witness.0.0
 names monoids entries strand (Write cell value) rule witness b v f = named_access entries (access_of_witness cell witness) v.witness.0.0
@@ -127,7 +127,7 @@ refused_names shape entries entry rule witness j is =
     names shape.monoids entries entry.request.strand entry.request.act rule witness
     (subst (Belongs entry.request.act) is j.legal.1.belongs)
     (subst (λ (a : Answer). MatchOption (cell_access entry.request.act) (Unit {0}) (λ access. IsRightVerdict entries entry.request.strand access a)) is j.memory.1)
-    (subst (λ (a : Answer). IsRightFor shape.monoids (control_part entries) (steps_of entries) (granted_reads entries) entry.request.strand entry.request.act a) is
+    (subst (λ (a : Answer). IsRightFor (reads_before shape.monoids entries) entry.request.strand entry.request.act a) is
     j.reducers.1)
 
 -- ---- entries by their numbers, the oldest first

@@ -19,7 +19,7 @@ use Rattle.model_histories.specs.Legal.{Belongs}
 use Rattle.model_races.specs.Accesses.{cell_access, is_granted, access_at, granted}
 use Rattle.model_races.specs.Verdicts.{IsRightVerdict}
 use Rattle.model_races.specs.Reducers.{steps_of, read_at, granted_reads}
-use Rattle.model_races.specs.ReducerVerdicts.{IsRightFor}
+use Rattle.model_races.specs.ReducerVerdicts.{IsRightFor, reads_before}
 use Rattle.model_races.specs.Judged.{IsJudged}
 use Rattle.race_gate.proofs.Races.{none-listed}
 use Rattle.race_report.specs.Conditions.{IsGetWhereUnset, HasWitness, IsTellable, AreTellable}
@@ -82,7 +82,7 @@ unset_is_get act answer belongs = tt
 
 answer_has_witness : (shape : Shape) (entries : Entries) (strand : ℕ) (act : Act) (answer : Answer) → Belongs act answer →
     MatchOption (cell_access act) (Unit {0}) (λ access. IsRightVerdict entries strand access answer) →
-    IsRightFor shape.monoids (control_part entries) (steps_of entries) (granted_reads entries) strand act answer → HasWitness (length entries) answer
+    IsRightFor (reads_before shape.monoids entries) strand act answer → HasWitness (length entries) answer
 answer_has_witness shape entries strand (Read location) (Refused rule witness) belongs right reads = granted_number entries _ right.witness.0.0
 answer_has_witness shape entries strand (Write location value) (Refused rule witness) belongs right reads = granted_number entries _ right.witness.0.0
 answer_has_witness shape entries strand (Bump location value) (Refused rule witness) belongs right reads = granted_number entries _ right.witness.0.0

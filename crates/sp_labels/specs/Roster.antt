@@ -110,8 +110,17 @@ event_of_return strand Finished = finished strand
 abbrev pub most_callers : ℕ
 most_callers = 4294967296
 
+-- how many records and callers there are and may be, and how many items more the two orders may have
+pub record Fill : Type 0 where
+  pub records : ℕ
+  pub records_fit : ℕ
+  pub callers : ℕ
+  pub callers_fit : ℕ
+  pub english : ℕ
+  pub hebrew : ℕ
+
 -- with room, an event finds all that it needs
-abbrev pub IsReady : Bool → (records records_fit callers callers_fit english hebrew : ℕ) → Type 0
-IsReady has_room records records_fit callers callers_fit english hebrew =
+abbrev pub IsReady : Bool → Fill → Type 0
+IsReady has_room fill =
     has_room ≡ true →
-    (records + 3 ≤ records_fit) × (callers + 1 ≤ callers_fit) × (callers_fit ≤ most_callers) × (3 ≤ english) × (3 ≤ hebrew)
+    (fill.records + 3 ≤ fill.records_fit) × (fill.callers + 1 ≤ fill.callers_fit) × (fill.callers_fit ≤ most_callers) × (3 ≤ fill.english) × (3 ≤ fill.hebrew)

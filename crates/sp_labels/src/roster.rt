@@ -107,8 +107,14 @@ impl<A: Allocator> Model for Strands<A> {
           hebrew = v.hebrew.items;
           has_room = v.has_room;
         })
-        × IsReady v.has_room (vec_len v.records) (vec_capacity v.records)
-        (slab_len v.callers) v.callers.capacity v.english.reserved v.hebrew.reserved };
+        × IsReady v.has_room (record {
+          records = vec_len v.records;
+          records_fit = vec_capacity v.records;
+          callers = slab_len v.callers;
+          callers_fit = v.callers.capacity;
+          english = v.english.reserved;
+          hebrew = v.hebrew.reserved;
+        }) };
 }
 
 impl<A: Allocator> Strands<A> {

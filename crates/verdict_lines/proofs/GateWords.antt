@@ -20,7 +20,7 @@ use Rattle.model_histories.specs.Legal.{Belongs}
 use Rattle.model_races.specs.Accesses.{cell_access}
 use Rattle.model_races.specs.Verdicts.{IsRightVerdict}
 use Rattle.model_races.specs.Reducers.{steps_of, granted_reads}
-use Rattle.model_races.specs.ReducerVerdicts.{IsRightFor}
+use Rattle.model_races.specs.ReducerVerdicts.{IsRightFor, reads_before}
 use Rattle.model_races.specs.Judged.{IsJudged}
 use Rattle.model_histories.specs.States.{GateState}
 use Rattle.model_histories.specs.Replies.{JudgesAll}
@@ -36,7 +36,7 @@ view_word earlier new views = subst (λ rule. IsSome (rule_spelling earlier new 
 -- a legal answer that is right has a word
 pub answer_has_word : (shape : Shape) (entries : Entries) (strand : ℕ) (act : Act) (answer : Answer) → Belongs act answer →
     MatchOption (cell_access act) (Unit {0}) (λ access. IsRightVerdict entries strand access answer) →
-    IsRightFor shape.monoids (control_part entries) (steps_of entries) (granted_reads entries) strand act answer → HasWord act answer
+    IsRightFor (reads_before shape.monoids entries) strand act answer → HasWord act answer
 answer_has_word shape entries strand (Read location) (Refused rule witness) belongs right reads = race_word witness.kind kind.Read right.witness.0.2
 answer_has_word shape entries strand (Write location value) (Refused rule witness) belongs right reads = race_word witness.kind kind.Write right.witness.0.2
 answer_has_word shape entries strand (Bump location value) (Refused rule witness) belongs right reads = race_word witness.kind kind.Bump right.witness.0.2

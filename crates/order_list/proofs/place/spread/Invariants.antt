@@ -5,7 +5,7 @@ use Rattle.order_list.proofs.place.spread.Given as goal
 
 abbrev pub invariant-loop-placed : goal.invariant-loop-placed
 invariant-loop-placed l = record {
-  evened : IsEvened l.initial.places l.places (items_along l.initial.places) (place_of l.first (items_along l.initial.places)) l.placed l.group l.distance l.local;
+  evened : IsEvened l.initial.places l.places (record { items = items_along l.initial.places; start = place_of l.first (items_along l.initial.places); group = l.group; gap = l.distance }) l.placed l.local;
   item : l.item ≡ slice_index (items_along l.initial.places) (place_of l.first (items_along l.initial.places) + l.placed);
   fits : l.local + (l.count - l.placed) * l.distance ≤ 4294967295;
 }
