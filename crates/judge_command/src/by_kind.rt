@@ -22,13 +22,11 @@ ghost use Rattle.model_accesses.specs.declared.request.Request.{Request as SpecR
 ghost use Rattle.command_streams.specs.Watched.{held, has_failed};
 ghost use Rattle.judge_command.specs.StatusFlags.{HasJudged, Tells, TellsTrace};
 ghost use Rattle.verdict_lines.specs.VerdictText.{HasWords};
-ghost use Rattle.race_gate.specs.Accesses.{sort_of};
-ghost use Rattle.race_gate.specs.declared.access.Sort.{Sort};
-ghost use Rattle.model_races.specs.declared.access.CellAccess.{CellAccess};
+ghost use Rattle.race_gate.specs.Accesses.{act_of_cell, act_of_reducer};
 
 use crate::status::StatusFlags;
 use command_streams::{LineBuffer, Watched};
-use race_gate::{Core, GateFault, Reply};
+use race_gate::{CellAct, ControlAct, Core, GateFault, ReducerAct, Reply};
 use std::alloc::{AllocError, Allocator};
 use std::io::Write;
 use text_words::{Act, Request};
@@ -84,8 +82,8 @@ fn tell<A: Allocator, W: Write>(verdicts: &mut Verdicts<A>, output: &mut Watched
 
 // Judges an act of control and tells the reply: a macro, since as a function it is longer than what the compiler puts in line.
 macro_rules! tell_control {
-    ($core:ident, $verdicts:ident, $output:ident, $request:ident) => {{
-        let reply = $core.reply_to_control($request);
+    ($core:ident, $verdicts:ident, $output:ident, $request:ident, $act:expr) => {{
+        let reply = $core.reply_to_control($request, $act);
         tell(&mut $verdicts, $output, &reply);
     }};
 }
@@ -97,8 +95,9 @@ fn tell_cell<A: Allocator + Clone, W: Write>(
     verdicts: &mut Verdicts<A>,
     output: &mut Watched<W>,
     request: Request,
+    act: CellAct,
 )
-    requires is { (access : CellAccess) × sort_of request.act ≡ Sort.Cell access }
+    requires is { request.act ≡ act_of_cell act }
     requires core { IsCore core.old }
     ensures { (start : GateState) (wrote : Option (List ℕ)) (requests : List SpecRequest) (replies : List SpecReply) →
         HasJudged start requests replies core.old verdicts.old wrote (W.contents (held output.old)) (has_failed output.old) →
@@ -107,7 +106,7 @@ fn tell_cell<A: Allocator + Clone, W: Write>(
 {
     match core.check(request) {
         Ok(()) => {
-            let receipt = core.answer_cell(request);
+            let receipt = core.answer_cell(request, act);
             note(verdicts, output, &Reply::Done(receipt));
         }
         Err(fault) => note_fault(verdicts, output, fault),
@@ -121,8 +120,9 @@ fn tell_reducer<A: Allocator + Clone, W: Write>(
     verdicts: &mut Verdicts<A>,
     output: &mut Watched<W>,
     request: Request,
+    act: ReducerAct,
 )
-    requires is { sort_of request.act ≡ Sort.Reducer }
+    requires is { request.act ≡ act_of_reducer act }
     requires core { IsCore core.old }
     ensures { (start : GateState) (wrote : Option (List ℕ)) (requests : List SpecRequest) (replies : List SpecReply) →
         HasJudged start requests replies core.old verdicts.old wrote (W.contents (held output.old)) (has_failed output.old) →
@@ -130,7 +130,7 @@ fn tell_reducer<A: Allocator + Clone, W: Write>(
         wrote (W.contents (held output.new)) (has_failed output.new) }
 {
     match core.check(request) {
-        Ok(()) => match core.answer_reducer(request) {
+        Ok(()) => match core.answer_reducer(request, act) {
             Ok(receipt) => note(verdicts, output, &Reply::Done(receipt)),
             Err(fault) => note_fault(verdicts, output, fault),
         },
@@ -161,16 +161,34 @@ pub(crate) fn judge<A: Allocator + Copy, W: Write>(
     for line in trace.lines.iter() {
         let asked = line.request;
         match asked.act {
-            Act::Spawn => tell_control!(core, verdicts, output, asked),
-            Act::Sync => tell_control!(core, verdicts, output, asked),
-            Act::Call => tell_control!(core, verdicts, output, asked),
-            Act::Return => tell_control!(core, verdicts, output, asked),
-            Act::Read(_) => tell_cell(&mut core, &mut verdicts, output, asked),
-            Act::Write(_, _) => tell_cell(&mut core, &mut verdicts, output, asked),
-            Act::Bump(_, _) => tell_cell(&mut core, &mut verdicts, output, asked),
-            Act::Update(_, _) => tell_reducer(&mut core, &mut verdicts, output, asked),
-            Act::Put(_, _) => tell_reducer(&mut core, &mut verdicts, output, asked),
-            Act::Get(_) => tell_reducer(&mut core, &mut verdicts, output, asked),
+            Act::Spawn => tell_control!(core, verdicts, output, asked, ControlAct::Spawn),
+            Act::Sync => tell_control!(core, verdicts, output, asked, ControlAct::Sync),
+            Act::Call => tell_control!(core, verdicts, output, asked, ControlAct::Call),
+            Act::Return => tell_control!(core, verdicts, output, asked, ControlAct::Return),
+            Act::Read(cell) => {
+                let act = CellAct::Read(cell);
+                tell_cell(&mut core, &mut verdicts, output, asked, act);
+            }
+            Act::Write(cell, value) => {
+                let act = CellAct::Write(cell, value);
+                tell_cell(&mut core, &mut verdicts, output, asked, act);
+            }
+            Act::Bump(cell, value) => {
+                let act = CellAct::Bump(cell, value);
+                tell_cell(&mut core, &mut verdicts, output, asked, act);
+            }
+            Act::Update(reducer, value) => {
+                let act = ReducerAct::Update(reducer, value);
+                tell_reducer(&mut core, &mut verdicts, output, asked, act);
+            }
+            Act::Put(reducer, value) => {
+                let act = ReducerAct::Put(reducer, value);
+                tell_reducer(&mut core, &mut verdicts, output, asked, act);
+            }
+            Act::Get(reducer) => {
+                let act = ReducerAct::Get(reducer);
+                tell_reducer(&mut core, &mut verdicts, output, asked, act);
+            }
         }
     }
     Ok(verdicts)

@@ -1,7 +1,6 @@
 -- Acts of control and accesses, and the books of reducers that there may be.
-use Rattle.std.proofs.Common.{◌≡◌, ℕ, length, Option, Some, None, sym, ◌∙◌, ap, subst, arith}
+use Rattle.std.proofs.Common.{◌≡◌, ◌<◌, ℕ, length, Option, Some, None, sym, ◌∙◌, ap, subst, arith}
 use Rattle.model_accesses.specs.declared.request.Act.{Act}
-use Rattle.model_accesses.specs.declared.request.Act.TheVariants.{Update, Put, Get}
 use Rattle.model_strands.specs.History.{Event, History}
 use Rattle.model_strands.specs.Legal.{Allowed}
 use Rattle.sp_labels.specs.Roster.{Roster}
@@ -44,12 +43,11 @@ running-still (Some found) one new strand is still (steps, earlier, kept, runs) 
     let stays = subst (λ b. KeepsStill b new) same still in
     (steps, earlier, stays.keeps steps earlier kept, runs)
 
-pub known-still : (option : Option Books) (one new : Books) (act : Act) → option ≡ Some one → KeepsStill one new → OptionHasReducer option act → OptionHasReducer (Some new) act
-known-still None one new act is still known = absurd (cc)
-known-still (Some found) one new (Update reducer value) is still known = let same : one ≡ found = cc in let stays = subst (λ b. KeepsStill b new) same still in omega (arith, ap length stays.monoids)
-known-still (Some found) one new (Put reducer value) is still known = let same : one ≡ found = cc in let stays = subst (λ b. KeepsStill b new) same still in omega (arith, ap length stays.monoids)
-known-still (Some found) one new (Get reducer) is still known = let same : one ≡ found = cc in let stays = subst (λ b. KeepsStill b new) same still in omega (arith, ap length stays.monoids)
-known-still (Some found) one new act is still known = absurd known
+pub known-still : (option : Option Books) (one new : Books) (reducer : ℕ) → option ≡ Some one → KeepsStill one new → OptionHasReducer option reducer →
+    reducer < length new.views.monoids
+known-still None one new reducer is still known = absurd known
+known-still (Some found) one new reducer is still known =
+    let same : one ≡ found = cc in let stays = subst (λ b. KeepsStill b new) same still in omega (arith, ap length stays.monoids)
 
 -- an access after room was made for it
 pub answers-still : (option : Option Books) (one between new : Books) (number strand : ℕ) (act : Act) (answer : Answer) → option ≡ Some one →

@@ -6,19 +6,22 @@ use Rattle.std.proofs.lemmas.List.{append-nil}
 use Rattle.std.proofs.lemmas.Grind.{common_steps}
 use Rattle.model_accesses.specs.declared.request.Act.{Act}
 use Rattle.model_accesses.specs.declared.request.Act.TheVariants.{Spawn, Sync, Call, Return, Read, Write, Bump, Update, Put, Get}
-use Rattle.model_reducers.specs.declared.monoid.Monoid.{Monoid}
 use Rattle.model_strands.specs.History.{Event, History}
 use Rattle.model_strands.specs.Strands.{Running}
 use Rattle.model_strands.specs.Legal.{Allowed, Legal, then}
 use Rattle.model_reducers.specs.Steps.{other, Steps}
 use Rattle.law_values.specs.Accesses.{control_steps}
-use Rattle.model_accesses.specs.Reads.{ReducerRead}
 use Rattle.sp_labels.specs.Roster.{Roster, Follows}
 use Rattle.shadow_history.specs.declared.cell.Cell.{Cell}
 use Rattle.shadow_history.specs.Shadow.{Remembers}
 use Rattle.shadow_history.proofs.Later.{later_law}
 use Rattle.model_races.specs.declared.access.CellAccess.{CellAccess}
-use Rattle.race_gate.specs.declared.access.Sort.TheVariants.{Control, Cell as CellSort, Reducer}
+use Rattle.race_gate.specs.declared.access.ControlAct.{ControlAct}
+use Rattle.race_gate.specs.declared.access.ControlAct.TheVariants as control
+use Rattle.race_gate.specs.declared.access.CellAct.{CellAct}
+use Rattle.race_gate.specs.declared.access.CellAct.TheVariants as cell
+use Rattle.race_gate.specs.declared.access.ReducerAct.{ReducerAct}
+use Rattle.race_gate.specs.declared.access.ReducerAct.TheVariants as reducer
 use Rattle.model_histories.specs.declared.answer.Answer.{Answer}
 use Rattle.model_histories.specs.declared.answer.Answer.TheVariants.{Granted}
 use Rattle.model_histories.specs.declared.answer.Entry.{Entry}
@@ -26,7 +29,7 @@ use Rattle.model_histories.specs.Entries.{Entries, event_between, event_of, with
 use Rattle.model_histories.specs.Shapes.{Shape, IsInRange}
 use Rattle.model_histories.specs.Legal.{Belongs}
 use Rattle.model_races.specs.Accesses.{cell_access, is_granted, access_at, granted}
-use Rattle.race_gate.specs.Accesses.{sort_of}
+use Rattle.race_gate.specs.Accesses.{act_of_control, act_of_cell, act_of_reducer, access_of, reducer_of}
 use Rattle.model_races.specs.Memory.{leaves, effect_on_cell}
 use Rattle.model_races.specs.Verdicts.{IfValue, IsRightVerdict}
 use Rattle.model_races.specs.Reducers.{step_with, steps_of, read_at, granted_reads}
@@ -35,7 +38,7 @@ use Rattle.race_gate.specs.Books.{Books, Keeps, OptionKeepsStill, OptionKeepsOn,
 use Rattle.model_histories.specs.States.{GateState}
 use Rattle.race_gate.specs.Kept.{AreBooksOf, IsKept}
 use Rattle.model_histories.specs.Faults.{IsFaultless}
-use Rattle.race_gate.specs.Steps.{IsControl, FollowsWith, GoesOn, if_granted, IsJudgedBy, TakesPlace}
+use Rattle.race_gate.specs.Steps.{FollowsWith, GoesOn, if_granted, IsJudgedBy, TakesPlace}
 use Rattle.race_gate.proofs.Effects.{memory-after}
 use Rattle.race_gate.proofs.Keeping.{keeps-other}
 
@@ -75,40 +78,59 @@ record IsControlStep (number strand : ℕ) (act : Act) (answer : Answer) : Type 
   no_read : read_at number strand act answer ≡ None
   right : (before : ReadsBefore) → IsRightFor before strand act answer
 
-control-step : (number strand : ℕ) (act : Act) (answer : Answer) → IsControl act → IsControlStep number strand act answer
-control-step number strand Spawn answer is = record { no_read = refl; right = λ before. tt }
-control-step number strand Sync answer is = record { no_read = refl; right = λ before. tt }
-control-step number strand Call answer is = record { no_read = refl; right = λ before. tt }
-control-step number strand Return answer is = record { no_read = refl; right = λ before. tt }
-control-step number strand act answer is = absurd is
+control-step : (number strand : ℕ) (asked : Act) (act : ControlAct) (answer : Answer) → asked ≡ act_of_control act → IsControlStep number strand asked answer
+control-step number strand asked act answer is = subst (λ a. IsControlStep number strand a answer) (sym is) (of_control act)
+  where
+    of_control : (act : ControlAct) → IsControlStep number strand (act_of_control act) answer
+    of_control control.Spawn = record { no_read = refl; right = λ before. tt }
+    of_control control.Sync = record { no_read = refl; right = λ before. tt }
+    of_control control.Call = record { no_read = refl; right = λ before. tt }
+    of_control control.Return = record { no_read = refl; right = λ before. tt }
 
 -- an access of a reducer is no event
-reducer-no_event : (strand : ℕ) (act : Act) (answer : Answer) → sort_of act ≡ Reducer → event_between strand act answer ≡ None
-reducer-no_event strand (Update reducer value) answer is = refl
-reducer-no_event strand (Put reducer value) answer is = refl
-reducer-no_event strand (Get reducer) answer is = refl
-reducer-no_event strand act answer is = absurd (cc)
+reducer-no_event : (strand : ℕ) (asked : Act) (act : ReducerAct) (answer : Answer) → asked ≡ act_of_reducer act → event_between strand asked answer ≡ None
+reducer-no_event strand asked act answer is = ap (λ a. event_between strand a answer) is ∙ of_reducer act
+  where
+    of_reducer : (act : ReducerAct) → event_between strand (act_of_reducer act) answer ≡ None
+    of_reducer (reducer.Update place value) = refl
+    of_reducer (reducer.Put place value) = refl
+    of_reducer (reducer.Get place) = refl
 
 -- ---- what an act asks for
 
-pub sort-cell : (act : Act) (access : CellAccess) → sort_of act ≡ CellSort access → cell_access act ≡ Some access
-sort-cell (Read location) access is = cc
-sort-cell (Write location value) access is = cc
-sort-cell (Bump location value) access is = cc
-sort-cell act access is = absurd (cc)
+pub cell-asked : (asked : Act) (act : CellAct) → asked ≡ act_of_cell act → cell_access asked ≡ Some (access_of act)
+cell-asked asked act is = ap cell_access is ∙ of_cell act
+  where
+    of_cell : (act : CellAct) → cell_access (act_of_cell act) ≡ Some (access_of act)
+    of_cell (cell.Read location) = refl
+    of_cell (cell.Write location value) = refl
+    of_cell (cell.Bump location value) = refl
 
-pub sort-control : (act : Act) → sort_of act ≡ Control → (cell_access act ≡ None) × IsControl act
-sort-control Spawn is = (refl, tt)
-sort-control Sync is = (refl, tt)
-sort-control Call is = (refl, tt)
-sort-control Return is = (refl, tt)
-sort-control act is = absurd (cc)
+control-asked : (asked : Act) (act : ControlAct) → asked ≡ act_of_control act → cell_access asked ≡ None
+control-asked asked act is = ap cell_access is ∙ of_control act
+  where
+    of_control : (act : ControlAct) → cell_access (act_of_control act) ≡ None
+    of_control control.Spawn = refl
+    of_control control.Sync = refl
+    of_control control.Call = refl
+    of_control control.Return = refl
 
-sort-reducer : (act : Act) → sort_of act ≡ Reducer → cell_access act ≡ None
-sort-reducer (Update reducer value) is = refl
-sort-reducer (Put reducer value) is = refl
-sort-reducer (Get reducer) is = refl
-sort-reducer act is = absurd (cc)
+reducer-asked : (asked : Act) (act : ReducerAct) → asked ≡ act_of_reducer act → cell_access asked ≡ None
+reducer-asked asked act is = ap cell_access is ∙ of_reducer act
+  where
+    of_reducer : (act : ReducerAct) → cell_access (act_of_reducer act) ≡ None
+    of_reducer (reducer.Update place value) = refl
+    of_reducer (reducer.Put place value) = refl
+    of_reducer (reducer.Get place) = refl
+
+-- the reducer of an access is there
+pub in-reducers : (shape : Shape) (asked : Act) (act : ReducerAct) → asked ≡ act_of_reducer act → IsInRange shape asked → reducer_of act < length shape.monoids
+in-reducers shape asked act is in_range = of_reducer act (subst (IsInRange shape) is in_range)
+  where
+    of_reducer : (act : ReducerAct) → IsInRange shape (act_of_reducer act) → reducer_of act < length shape.monoids
+    of_reducer (reducer.Update place value) in_range = in_range
+    of_reducer (reducer.Put place value) in_range = in_range
+    of_reducer (reducer.Get place) in_range = in_range
 
 -- what is no access of a cell leaves memory as it is
 no_access-leaves : (act : Act) (answer : Answer) → cell_access act ≡ None → effect_on_cell act answer ≡ leaves
@@ -216,24 +238,16 @@ module _ (shape : Shape) (entry : Entry) (entries : Entries) where
 
 -- ---- what the gate's steps ask for
 
-pub books-known : (shape : Shape) (entries : Entries) (books : Option Books) (act : Act) → AreBooksOf shape entries books → sort_of act ≡ Reducer →
-    IsInRange shape act → OptionHasReducer books act
-books-known shape entries None (Update reducer value) none is in_range = absurd (omega (arith, ap length none))
-books-known shape entries None (Put reducer value) none is in_range = absurd (omega (arith, ap length none))
-books-known shape entries None (Get reducer) none is in_range = absurd (omega (arith, ap length none))
-books-known shape entries (Some books) (Update reducer value) kept is in_range = omega (arith, ap length kept.0)
-books-known shape entries (Some books) (Put reducer value) kept is in_range = omega (arith, ap length kept.0)
-books-known shape entries (Some books) (Get reducer) kept is in_range = omega (arith, ap length kept.0)
-books-known shape entries books act kept is in_range = absurd (cc)
+module _ (shape : Shape) (entries : Entries) where
+  pub books-known : (books : Option Books) (reducer : ℕ) → AreBooksOf shape entries books → reducer < length shape.monoids → OptionHasReducer books reducer
+  books-known None reducer none in_range = absurd (omega (arith, ap length none))
+  books-known (Some books) reducer kept in_range = omega (arith, ap length kept.0)
 
-pub books-running : (shape : Shape) (entries : Entries) (books : Option Books) (act : Act) (strand : ℕ) → AreBooksOf shape entries books → sort_of act ≡ Reducer →
-    IsInRange shape act → Running (control_part entries) strand → OptionKeepsRunning books strand
-books-running shape entries None act strand kept is in_range runs = no_books act (books-known shape entries None act kept is in_range)
-  where
-    no_books : (act : Act) → OptionHasReducer None act → ⊥
-    no_books act none = none
-books-running shape entries (Some books) act strand kept is in_range runs =
-    (steps_of entries, granted_reads entries, kept.1, subst (λ h. Running h strand) (sym (steps-control entries)) runs)
+  pub books-running : (books : Option Books) (reducer strand : ℕ) → AreBooksOf shape entries books → reducer < length shape.monoids →
+      Running (control_part entries) strand → OptionKeepsRunning books strand
+  books-running None reducer strand kept in_range runs = books-known None reducer kept in_range
+  books-running (Some books) reducer strand kept in_range runs =
+      (steps_of entries, granted_reads entries, kept.1, subst (λ h. Running h strand) (sym (steps-control entries)) runs)
 
 books-some : (shape : Shape) (entries : Entries) (books : Option Books) → AreBooksOf shape entries books → OptionKeepsSome books (control_part entries)
 books-some shape entries None kept = tt
@@ -292,17 +306,17 @@ module _ (state : GateState) (strands : Roster) (shadow : List Cell) (books : Op
   }
 
   -- an event of control
-  pub entered-control : (after : Roster) (others : Option Books) → sort_of entry.request.act ≡ Control →
+  pub entered-control : (act : ControlAct) (after : Roster) (others : Option Books) → entry.request.act ≡ act_of_control act →
       GoesOn (control_part state.history) entry.request.strand entry.request.act entry.answer after →
       ((event : Event) → event_of entry ≡ Some event → OptionKeepsOn books others event) →
       IsKept (record state { history = entry ∷ state.history }) after shadow others
-  entered-control after others sort goes on =
-      let (no_access, is_control) = sort-control entry.request.act sort in
+  entered-control act after others is goes on =
+      let no_access = control-asked entry.request.act act is in
       let part : control_part (entry ∷ state.history) ≡ goes.event ∷ control_part state.history = rw goes.is refl in
       let legal : Legal (goes.event ∷ control_part state.history) = goes.follows.legal in
       let remembers : Remembers shadow (goes.event ∷ control_part state.history) (granted state.history) =
       later_law shadow (granted state.history) (control_part state.history) (goes.event ∷ control_part state.history) (goes.event ∷ [], refl) legal kept.remembers in
-      let step = control-step (suc (length state.history)) entry.request.strand entry.request.act entry.answer is_control in
+      let step = control-step (suc (length state.history)) entry.request.strand entry.request.act act entry.answer is in
       entered after shadow others state.memory goes.belongs (rw goes.is (last_allowed legal)) (rw no_access tt) (step.right (reads_before state.shape.monoids state.history))
       (rw (no_access-leaves entry.request.act entry.answer no_access) (record { len = refl; each = λ cell below. refl }))
       (subst (λ h. Follows after h) (sym part) goes.follows)
@@ -334,12 +348,12 @@ module _ (state : GateState) (strands : Roster) (shadow : List Cell) (books : Op
       (books-cell state.shape entry state.history books step.no_event step.step step.no_read faultless.runs kept.reducers)
 
   -- an access of a reducer
-  pub entered-reducer : (others : Option Books) (number : ℕ) → number ≡ suc (length state.history) → sort_of entry.request.act ≡ Reducer →
+  pub entered-reducer : (act : ReducerAct) (others : Option Books) (number : ℕ) → number ≡ suc (length state.history) → entry.request.act ≡ act_of_reducer act →
       OptionAnswersAccess books others number entry.request.strand entry.request.act entry.answer →
       IsKept (record state { history = entry ∷ state.history }) strands shadow others
-  entered-reducer others number numbered sort answers =
-      let none = reducer-no_event entry.request.strand entry.request.act entry.answer sort in
-      let no_access = sort-reducer entry.request.act sort in
+  entered-reducer act others number numbered is answers =
+      let none = reducer-no_event entry.request.strand entry.request.act act entry.answer is in
+      let no_access = reducer-asked entry.request.act act is in
       let part : control_part (entry ∷ state.history) ≡ control_part state.history = rw none refl in
       let done = books-reducer state.shape entry state.history books others number numbered none faultless.runs answers kept.reducers in
       entered strands shadow others state.memory done.belongs (rw none tt) (rw no_access tt) done.right

@@ -5,7 +5,6 @@ use Rattle.model_strands.specs.Extensions.{Extends}
 use Rattle.model_histories.specs.declared.answer.Entry.{Entry}
 use Rattle.model_histories.specs.Entries.{Entries, control_part}
 use Rattle.model_histories.specs.Shapes.{Shape}
-use Rattle.model_races.specs.Reducers.{steps_of, granted_reads}
 use Rattle.model_races.specs.ViewReads.{Completes}
 use Rattle.model_races.specs.ReducerVerdicts.{IsRightFor, ReducersAreJudged, reads_before}
 use Rattle.model_races.specs.Laws.{ReadLaw}

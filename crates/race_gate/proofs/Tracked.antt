@@ -10,14 +10,15 @@ use Rattle.sp_labels.specs.Roster.{Roster, Follows, HasFewLeft}
 use Rattle.shadow_history.specs.declared.cell.Cell.{Cell}
 use Rattle.model_accesses.specs.Accesses.{Access}
 use Rattle.shadow_history.specs.Shadow.{Remembers}
-use Rattle.model_races.specs.declared.access.CellAccess.{CellAccess}
-use Rattle.race_gate.specs.declared.access.Sort.TheVariants.{Control, Cell as CellSort, Reducer}
+use Rattle.race_gate.specs.declared.access.ControlAct.{ControlAct}
+use Rattle.race_gate.specs.declared.access.CellAct.{CellAct}
+use Rattle.race_gate.specs.declared.access.ReducerAct.{ReducerAct}
 use Rattle.model_histories.specs.declared.answer.Answer.{Answer}
 use Rattle.model_histories.specs.declared.fault.GateFault.{GateFault}
 use Rattle.model_histories.specs.declared.fault.GateFault.TheVariants.{Memory}
-use Rattle.model_histories.specs.Entries.{event_between}
+use Rattle.model_histories.specs.Entries.{event_between, control_part}
 use Rattle.model_histories.specs.Legal.{Belongs}
-use Rattle.race_gate.specs.Accesses.{sort_of}
+use Rattle.race_gate.specs.Accesses.{act_of_control, act_of_cell, act_of_reducer, access_of, reducer_of}
 use Rattle.model_races.specs.Memory.{effect_on_cell}
 use Rattle.model_races.specs.Verdicts.{IfValue}
 use Rattle.race_gate.specs.Books.{Books, OptionKeepsStill, OptionKeepsOn, OptionKeepsRunning, OptionHasReducer, OptionAnswersAccess}
@@ -26,7 +27,7 @@ use Rattle.race_gate.specs.Kept.{IsKept, IsReady, with_entry}
 use Rattle.race_gate.specs.Steps.{FollowsWith, GoesOn, IsJudgedBy, TakesPlace}
 use Rattle.race_gate.proofs.Followed.{running-in-each, synced-in-each, few-in-each}
 use Rattle.race_gate.proofs.Numbers.{not_few}
-use Rattle.race_gate.proofs.Entering.{in-cells, sort-cell, books-known, books-running, kept-follows, entered-access, entered-control, entered-reducer, kept-still}
+use Rattle.race_gate.proofs.Entering.{in-cells, cell-asked, in-reducers, books-known, books-running, kept-follows, entered-access, entered-control, entered-reducer, kept-still}
 
 module _ (state : GateState) (strands : Roster) (shadow : List Cell) (books : Option Books) (memory : List ℕ) (request : Request) (number : ℕ)
     (ready : IsReady state strands shadow books memory request number) where
@@ -45,57 +46,61 @@ module _ (state : GateState) (strands : Roster) (shadow : List Cell) (books : Op
   pub ready-follows : FollowsWith strands books
   ready-follows = kept-follows _ _ _ _ ready.kept
 
-  pub ready-known : sort_of request.act ≡ Reducer → OptionHasReducer books request.act
-  ready-known is = books-known _ _ _ request.act ready.kept.reducers is ready.faultless.in_range
+  pub ready-known : (act : ReducerAct) → request.act ≡ act_of_reducer act → OptionHasReducer books (reducer_of act)
+  ready-known act is = books-known state.shape _ _ _ ready.kept.reducers (in-reducers _ _ act is ready.faultless.in_range)
 
-  pub ready-running : sort_of request.act ≡ Reducer → OptionKeepsRunning books request.strand
-  ready-running is = books-running _ _ _ request.act request.strand ready.kept.reducers is ready.faultless.in_range ready.faultless.runs
+  pub ready-running : (act : ReducerAct) → request.act ≡ act_of_reducer act → OptionKeepsRunning books request.strand
+  ready-running act is = books-running state.shape _ _ _ _ ready.kept.reducers (in-reducers _ _ act is ready.faultless.in_range) ready.faultless.runs
 
-  pub ready-in_cells : (access : CellAccess) → sort_of request.act ≡ CellSort access → access.location < state.shape.cells
-  ready-in_cells access is = in-cells _ _ _ (sort-cell _ _ is) ready.faultless.in_range
+  pub ready-in_cells : (act : CellAct) → request.act ≡ act_of_cell act → (access_of act).location < state.shape.cells
+  ready-in_cells act is = in-cells _ _ _ (cell-asked _ act is) ready.faultless.in_range
 
-  pub ready-in_shadow : (access : CellAccess) → sort_of request.act ≡ CellSort access → access.location < length shadow
-  ready-in_shadow access is = let below = ready-in_cells access is in omega (arith, ready.kept.locations)
+  pub ready-in_shadow : (act : CellAct) → request.act ≡ act_of_cell act → (access_of act).location < length shadow
+  ready-in_shadow act is = let below = ready-in_cells act is in omega (arith, ready.kept.locations)
 
-  pub ready-in_memory : (access : CellAccess) → sort_of request.act ≡ CellSort access → access.location < length memory
-  ready-in_memory access is =
-      let below = ready-in_cells access is in
-      subst (λ (cells : List ℕ). access.location < length cells) (sym ready.cells) (omega (arith, ready.kept.right.memory.len))
+  pub ready-in_memory : (act : CellAct) → request.act ≡ act_of_cell act → (access_of act).location < length memory
+  ready-in_memory act is =
+      let below = ready-in_cells act is in
+      subst (λ (cells : List ℕ). (access_of act).location < length cells) (sym ready.cells) (omega (arith, ready.kept.right.memory.len))
 
   numbered : number ≡ suc (length state.history)
   numbered = omega (arith, ready.numbered)
 
   -- what they answer
-  pub answers-cell : (access : CellAccess) (answer : Answer) (marks : List Cell) (cells : List ℕ) → sort_of request.act ≡ CellSort access → Belongs request.act answer →
-      ((history : History) (accesses : List Access) → Follows strands history → Remembers shadow history accesses → IsJudgedBy history accesses request.strand access number answer marks) →
-      length marks ≡ length shadow → IfValue answer (λ value. value ≡ slice_index memory access.location) → TakesPlace (effect_on_cell request.act answer) memory cells →
+  pub answers-cell : (act : CellAct) (answer : Answer) (marks : List Cell) (cells : List ℕ) → request.act ≡ act_of_cell act → Belongs (act_of_cell act) answer →
+      ((history : History) (accesses : List Access) → Follows strands history → Remembers shadow history accesses →
+      IsJudgedBy history accesses request.strand (access_of act) number answer marks) → length marks ≡ length shadow →
+      IfValue answer (λ value. value ≡ slice_index memory (access_of act).location) → TakesPlace (effect_on_cell (act_of_cell act) answer) memory cells →
       IsKept (with_entry state request answer cells) strands marks books
-  answers-cell access answer marks cells is belongs judged len value takes =
-      entered-access state strands shadow books ready.kept (record { request = request; answer = answer }) ready.faultless access marks cells number numbered
-      (sort-cell _ _ is) (ready-in_cells access is) belongs (judged _ _ ready.kept.follows ready.kept.remembers)
-      (subst (λ xs. IfValue answer (λ value. value ≡ slice_index xs access.location)) ready.cells value)
-      (subst (λ xs. TakesPlace (effect_on_cell request.act answer) xs cells) ready.cells takes) len
+  answers-cell act answer marks cells is belongs judged len value takes =
+      entered-access state strands shadow books ready.kept (record { request = request; answer = answer }) ready.faultless (access_of act) marks cells number numbered
+      (cell-asked _ act is) (ready-in_cells act is) (subst (λ asked. Belongs asked answer) (sym is) belongs) (judged _ _ ready.kept.follows ready.kept.remembers)
+      (subst (λ xs. IfValue answer (λ value. value ≡ slice_index xs (access_of act).location)) ready.cells value)
+      (subst (λ asked. TakesPlace (effect_on_cell asked answer) state.memory cells) (sym is)
+      (subst (λ xs. TakesPlace (effect_on_cell (act_of_cell act) answer) xs cells) ready.cells takes)) len
 
-  pub answers-control : (after : Roster) (others : Option Books) (result : Result Answer GateFault) → sort_of request.act ≡ Control →
-      IfOk result (λ answer. (history : History) → Follows strands history → GoesOn history request.strand request.act answer after) →
-      IfOk result (λ answer. (event : Event) → event_between request.strand request.act answer ≡ Some event → OptionKeepsOn books others event) →
+  pub answers-control : (act : ControlAct) (after : Roster) (others : Option Books) (result : Result Answer GateFault) → request.act ≡ act_of_control act →
+      IfOk result (λ answer. (history : History) → Follows strands history → GoesOn history request.strand (act_of_control act) answer after) →
+      IfOk result (λ answer. (event : Event) → event_between request.strand (act_of_control act) answer ≡ Some event → OptionKeepsOn books others event) →
       IfErr result (λ fault. fault ≡ Memory) → OnErr result ((history : History) → Follows strands history → Follows after history) →
       OnErr result (OptionKeepsStill books others) → MatchResult result
       (λ answer. IsKept (with_entry state request answer memory) after shadow others) (λ fault. (fault ≡ Memory) × IsKept state after shadow others)
-  answers-control after others (Ok answer) is goes on none follows still =
+  answers-control act after others (Ok answer) is goes on none follows still =
       subst (λ cells. IsKept (with_entry state request answer cells) after shadow others) (sym ready.cells)
-      (entered-control state strands shadow books ready.kept (record { request = request; answer = answer }) ready.faultless after others is
-      (goes _ ready.kept.follows) on)
-  answers-control after others (Err fault) is goes on none follows still = (none, kept-still _ _ _ _ _ _ ready.kept follows still)
+      (entered-control state strands shadow books ready.kept (record { request = request; answer = answer }) ready.faultless act after others is
+      (subst (λ asked. GoesOn (control_part state.history) request.strand asked answer after) (sym is) (goes _ ready.kept.follows))
+      (subst (λ asked. (event : Event) → event_between request.strand asked answer ≡ Some event → OptionKeepsOn books others event) (sym is) on))
+  answers-control act after others (Err fault) is goes on none follows still = (none, kept-still _ _ _ _ _ _ ready.kept follows still)
 
-  pub answers-reducer : (others : Option Books) (result : Result Answer GateFault) → sort_of request.act ≡ Reducer →
-      IfOk result (OptionAnswersAccess books others number request.strand request.act) → IfErr result (λ fault. fault ≡ Memory) →
+  pub answers-reducer : (act : ReducerAct) (others : Option Books) (result : Result Answer GateFault) → request.act ≡ act_of_reducer act →
+      IfOk result (OptionAnswersAccess books others number request.strand (act_of_reducer act)) → IfErr result (λ fault. fault ≡ Memory) →
       OnErr result (OptionKeepsStill books others) → MatchResult result
       (λ answer. IsKept (with_entry state request answer memory) strands shadow others) (λ fault. (fault ≡ Memory) × IsKept state strands shadow others)
-  answers-reducer others (Ok answer) is answers none still =
+  answers-reducer act others (Ok answer) is answers none still =
       subst (λ cells. IsKept (with_entry state request answer cells) strands shadow others) (sym ready.cells)
-      (entered-reducer state strands shadow books ready.kept (record { request = request; answer = answer }) ready.faultless others number numbered is answers)
-  answers-reducer others (Err fault) is answers none still = (none, kept-still _ _ _ _ _ _ ready.kept (λ history follows. follows) still)
+      (entered-reducer state strands shadow books ready.kept (record { request = request; answer = answer }) ready.faultless act others number numbered is
+      (subst (λ asked. OptionAnswersAccess books others number request.strand asked answer) (sym is) answers))
+  answers-reducer act others (Err fault) is answers none still = (none, kept-still _ _ _ _ _ _ ready.kept (λ history follows. follows) still)
 
 -- cells that were not handed on are as they were
 pub with-same-cells : (P : Answer → Type 0) (K : Type 0) (cells : List ℕ) (result : Result Answer GateFault) →

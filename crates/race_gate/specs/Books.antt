@@ -6,7 +6,6 @@ use Rattle.model_accesses.specs.declared.kind.Kind.TheVariants as kind
 use Rattle.model_accesses.specs.Table.{is_reducer_read}
 use Rattle.model_reducers.specs.declared.monoid.Monoid.{Monoid}
 use Rattle.model_accesses.specs.declared.request.Act.{Act}
-use Rattle.model_accesses.specs.declared.request.Act.TheVariants.{Update, Put, Get}
 use Rattle.model_strands.specs.History.{Event, History}
 use Rattle.model_strands.specs.Strands.{Running}
 use Rattle.model_strands.specs.Legal.{Allowed}
@@ -27,6 +26,8 @@ use Rattle.model_races.specs.Verdicts.{IsRefused}
 use Rattle.model_races.specs.Reducers.{step_with, read_at}
 use Rattle.model_races.specs.ViewReads.{IsRightRead}
 use Rattle.model_races.specs.ReducerVerdicts.{IsRightFor}
+use Rattle.race_gate.specs.declared.access.ReducerAct.{ReducerAct}
+use Rattle.race_gate.specs.declared.access.ReducerAct.TheVariants.{Get}
 
 pub record Books : Type 0 where
   pub branches : Names
@@ -102,7 +103,7 @@ abbrev pub HasRoom : Books → Type 0
 HasRoom books = (books.branches.has_room ≡ true) × (books.views.has_room ≡ true)
 
 -- there is room for the access of a reducer; a get needs none
-abbrev pub HasRoomFor : Books → Act → Type 0
+abbrev pub HasRoomFor : Books → ReducerAct → Type 0
 HasRoomFor books (Get reducer) = Unit {0}
 HasRoomFor books act = books.views.has_room ≡ true
 
@@ -132,12 +133,10 @@ abbrev pub OptionKeepsRunning : Option Books → ℕ → Type 0
 OptionKeepsRunning None strand = ⊥
 OptionKeepsRunning (Some books) strand = KeepsRunning books strand
 
--- the reducer of the act is there
-abbrev pub OptionHasReducer : Option Books → Act → Type 0
-OptionHasReducer (Some books) (Update reducer value) = reducer < length books.views.monoids
-OptionHasReducer (Some books) (Put reducer value) = reducer < length books.views.monoids
-OptionHasReducer (Some books) (Get reducer) = reducer < length books.views.monoids
-OptionHasReducer books act = ⊥
+-- the reducer is there
+abbrev pub OptionHasReducer : Option Books → ℕ → Type 0
+OptionHasReducer None reducer = ⊥
+OptionHasReducer (Some books) reducer = reducer < length books.views.monoids
 
 abbrev pub OptionAnswersAccess : Option Books → Option Books → ℕ → ℕ → Act → Answer → Type 0
 OptionAnswersAccess (Some old) (Some new) number strand act answer = AnswersAccess old new number strand act answer

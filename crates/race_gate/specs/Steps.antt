@@ -3,7 +3,6 @@ use Rattle.std.specs.Prelude.{◌≡◌, ◌↔◌, ◌<◌, ◌+◌, ◌%◌, �
 use Rattle.std.specs.Prelude.{length, slice_index, Some, None, Option, if◌then◌else◌}
 use Rattle.std.specs.Option.{option_to_list}
 use Rattle.model_accesses.specs.declared.request.Act.{Act}
-use Rattle.model_accesses.specs.declared.request.Act.TheVariants.{Spawn, Sync, Call, Return}
 use Rattle.model_strands.specs.History.{Event, History}
 use Rattle.sp_labels.specs.Roster.{Roster, Follows}
 use Rattle.shadow_history.specs.declared.cell.Cell.{Cell}
@@ -18,14 +17,6 @@ use Rattle.model_races.specs.Races.{HasRace, IsTrueWitness}
 use Rattle.model_races.specs.Memory.{CellEffect, sets, adds, leaves}
 use Rattle.model_races.specs.Verdicts.{IsRefused, IfRefused}
 use Rattle.race_gate.specs.Books.{Books, OptionKeepsSome}
-
--- the acts of control
-abbrev pub IsControl : Act → Type 0
-IsControl Spawn = Unit {0}
-IsControl Sync = Unit {0}
-IsControl Call = Unit {0}
-IsControl Return = Unit {0}
-IsControl act = ⊥
 
 -- the strands follow some history, and the books are of steps with it
 abbrev pub FollowsWith : Roster → Option Books → Type 0

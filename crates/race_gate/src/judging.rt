@@ -14,13 +14,12 @@ ghost use Rattle.model_histories.specs.Replies.{Judges, reply_of};
 ghost use Rattle.model_histories.specs.declared.reply.Reply.TheVariants.{Done};
 ghost use Rattle.model_histories.specs.Admission.{IsAdmitted, IsOfTheGate};
 ghost use Rattle.race_gate.specs.Cores.{IsCoreOf, IsCore, reply_with};
-ghost use Rattle.race_gate.specs.Accesses.{sort_of};
+ghost use Rattle.race_gate.specs.Accesses.{act_of_control, act_of_cell, act_of_reducer};
 
-use crate::access::{Sort, sort_of};
+use crate::access::{CellAct, ControlAct, ReducerAct};
 use crate::step::is_in_range;
 use crate::tracks::Tracks;
 use model_histories::{Answer, GateFault, Receipt, Reply};
-use model_races::CellAccess;
 use std::alloc::{AllocError, Allocator};
 use std::marker::Model;
 use text_words::{Act, Monoids, Request, Shape};
@@ -262,23 +261,20 @@ impl<A: Allocator + Clone> Core<A> {
         self.answer(request)
     }
 
-    /// Answers a request that has no fault and is an access of a cell, and does what was granted. The receipt is of its entry. Like
-    /// [`Core::answer_reducer`] it stands apart from [`Core::check`], so that a caller that knows the sort of its requests has a way of
-    /// its own for faults, and nothing to tell apart where there is none. Takes no memory.
+    /// Answers a request that has no fault and whose act is this access of a cell, and does what was granted. The receipt is of its
+    /// entry. Like [`Core::answer_reducer`] it stands apart from [`Core::check`], so that a caller that knows the sort of its requests
+    /// has a way of its own for faults, and nothing to tell apart where there is none. Takes no memory.
     #[inline(always)]
-    pub fn answer_cell(&mut self, request: Request) -> Receipt
-        requires is { (access : CellAccess) × sort_of request.act ≡ Sort.Cell access }
+    pub fn answer_cell(&mut self, request: Request, act: CellAct) -> Receipt
+        requires is { request.act ≡ act_of_cell act }
         requires faultless { (state : GateState) × IsCoreOf self.old state × IsFaultless state request }
         ensures { (state : GateState) → IsCoreOf self.old state → IsFaultless state request →
             (next : GateState) × Judges state request (Done result) next × IsCoreOf self.new next }
     {
-        let Sort::Cell(access) = sort_of(request.act) else {
-            unreachable!()
-        };
         let number = self.entries + 1;
         let answer = self
             .tracks
-            .access_cell(self.memory.as_mut_slice(), number, request, access);
+            .access_cell(self.memory.as_mut_slice(), number, request, act);
         self.entries = number;
         self.finished = is_end(answer);
         Receipt {
@@ -288,17 +284,21 @@ impl<A: Allocator + Clone> Core<A> {
         }
     }
 
-    /// Answers a request that has no fault and is an access of a reducer, and does what was granted. The receipt is of its entry. Where
-    /// memory is refused, nothing changes.
+    /// Answers a request that has no fault and whose act is this access of a reducer, and does what was granted. The receipt is of its
+    /// entry. Where memory is refused, nothing changes.
     #[inline(always)]
-    pub fn answer_reducer(&mut self, request: Request) -> Result<Receipt, GateFault>
-        requires is { sort_of request.act ≡ Sort.Reducer }
+    pub fn answer_reducer(
+        &mut self,
+        request: Request,
+        act: ReducerAct,
+    ) -> Result<Receipt, GateFault>
+        requires is { request.act ≡ act_of_reducer act }
         requires faultless { (state : GateState) × IsCoreOf self.old state × IsFaultless state request }
         ensures { (state : GateState) → IsCoreOf self.old state → IsFaultless state request →
             (next : GateState) × Judges state request (reply_of result) next × IsCoreOf self.new next }
     {
         let number = self.entries + 1;
-        let answer = self.tracks.access_reducer(number, request)?;
+        let answer = self.tracks.access_reducer(number, request, act)?;
         self.entries = number;
         self.finished = is_end(answer);
         Ok(Receipt {
@@ -308,16 +308,16 @@ impl<A: Allocator + Clone> Core<A> {
         })
     }
 
-    /// As [`Core::judge`], of a request that is an act of control.
+    /// As [`Core::judge`], of a request whose act is this act of control.
     #[inline(always)]
-    fn judge_control(&mut self, request: Request) -> Result<Answer, GateFault>
-        requires { sort_of request.act ≡ Sort.Control }
+    fn judge_control(&mut self, request: Request, act: ControlAct) -> Result<Answer, GateFault>
+        requires { request.act ≡ act_of_control act }
         ensures { (state : GateState) → IsCoreOf self.old state →
             (next : GateState) × Judges state request (reply_with (self.old.entries + 1) request result) next × IsCoreOf self.new next }
     {
         self.check(request)?;
         let number = self.entries + 1;
-        let answer = self.tracks.control(number, request)?;
+        let answer = self.tracks.control(number, request, act)?;
         self.entries = number;
         self.finished = is_end(answer);
         Ok(answer)
@@ -341,20 +341,22 @@ impl<A: Allocator + Clone> Core<A> {
     /// Answers a request as [`Core::judge`] does, and gives the reply of a gate that judged the same requests.
     #[inline(always)]
     pub fn reply(&mut self, request: Request) -> Reply
-        ensures { (state : GateState) → IsCoreOf self.old state → (next : GateState) × Judges state request result next × IsCoreOf self.new next }
+        ensures { (state : GateState) → IsCoreOf self.old state →
+            (next : GateState) × Judges state request result next × IsCoreOf self.new next }
     {
         let judged = self.judge(request);
         self.reply_of(request, judged)
     }
 
-    /// As [`Core::reply`], of a request that is an act of control. It is code of its own, which a caller that knows the sort of its
+    /// As [`Core::reply`], of a request whose act is this act of control. It is code of its own, which a caller that knows the sort of its
     /// requests makes a shorter way of.
     #[inline(always)]
-    pub fn reply_to_control(&mut self, request: Request) -> Reply
-        requires { sort_of request.act ≡ Sort.Control }
-        ensures { (state : GateState) → IsCoreOf self.old state → (next : GateState) × Judges state request result next × IsCoreOf self.new next }
+    pub fn reply_to_control(&mut self, request: Request, act: ControlAct) -> Reply
+        requires { request.act ≡ act_of_control act }
+        ensures { (state : GateState) → IsCoreOf self.old state →
+            (next : GateState) × Judges state request result next × IsCoreOf self.new next }
     {
-        let judged = self.judge_control(request);
+        let judged = self.judge_control(request, act);
         self.reply_of(request, judged)
     }
 }

@@ -8,9 +8,11 @@ ghost use Rattle.model_reducers.specs.Steps.{Steps};
 ghost use Rattle.law_values.specs.Accesses.{control_steps};
 ghost use Rattle.model_accesses.specs.Reads.{ReducerRead};
 ghost use Rattle.model_histories.specs.Entries.{event_between};
+ghost use Rattle.race_gate.specs.Accesses.{act_of_reducer, reducer_of};
 ghost use Rattle.race_gate.specs.Books.{Keeps, KeepsRunning, KeepsStill, KeepsOn, TakesEvent, HasRoom, HasRoomFor};
-ghost use Rattle.race_gate.specs.Books.{OptionHasReducer, IsRefusal, MayRead, AnswersAccess, OpensBooks};
+ghost use Rattle.race_gate.specs.Books.{IsRefusal, MayRead, AnswersAccess, OpensBooks};
 
+use crate::access::ReducerAct;
 use access_table::{Kind, rule};
 use branch_names::Branches;
 use model_histories::Answer;
@@ -84,29 +86,28 @@ impl<A: Allocator + Clone> ReducerTracks<A> {
 
     /// Makes room for an update or a put; a get needs none. A refusal changes nothing.
     #[inline(always)]
-    pub fn reserve_for(&mut self, act: Act) -> Result<(), AllocError>
+    pub fn reserve_for(&mut self, act: ReducerAct) -> Result<(), AllocError>
         ensures still { KeepsStill self.old self.new }
         ensures room { OnOk result (HasRoomFor self.new act) }
     {
         match act {
-            Act::Get(_) => Ok(()),
-            _ => self.views.reserve_event(),
+            ReducerAct::Get(_) => Ok(()),
+            ReducerAct::Update(_, _) | ReducerAct::Put(_, _) => self.views.reserve_event(),
         }
     }
 
     /// Judges an access by a running strand, and does it where it is granted. `number` is that of its entry. Takes no memory.
     #[inline(always)]
-    pub fn answer(&mut self, number: u32, strand: u32, act: Act) -> Answer
-        requires in_range { OptionHasReducer (Some self.old) act }
+    pub fn answer(&mut self, number: u32, strand: u32, act: ReducerAct) -> Answer
+        requires in_range { reducer_of act < length self.old.views.monoids }
         requires room { HasRoomFor self.old act }
         requires keeps { KeepsRunning self.old strand }
-        ensures { AnswersAccess self.old self.new number strand act result }
+        ensures { AnswersAccess self.old self.new number strand (act_of_reducer act) result }
     {
         match act {
-            Act::Update(reducer, value) => self.update(strand, reducer, value),
-            Act::Put(reducer, value) => self.put(number, strand, reducer, value),
-            Act::Get(reducer) => self.get(number, strand, reducer),
-            _ => unreachable!(),
+            ReducerAct::Update(reducer, value) => self.update(strand, reducer, value),
+            ReducerAct::Put(reducer, value) => self.put(number, strand, reducer, value),
+            ReducerAct::Get(reducer) => self.get(number, strand, reducer),
         }
     }
 

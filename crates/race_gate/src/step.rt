@@ -7,17 +7,19 @@ ghost use Rattle.model_strands.specs.Blocks.{stack, IsSynced};
 ghost use Rattle.sp_labels.specs.Roster.{Follows, FollowsSome, HasFewLeft};
 ghost use Rattle.model_accesses.specs.Accesses.{Access};
 ghost use Rattle.shadow_history.specs.Shadow.{Remembers, StandsOn, Runs};
+ghost use Rattle.race_gate.specs.Accesses.{act_of_control, act_of_cell, act_of_reducer, access_of, reducer_of};
 ghost use Rattle.race_gate.specs.Shapes.{shape_of};
 ghost use Rattle.model_histories.specs.Shapes.{IsInRange};
 ghost use Rattle.model_histories.specs.Entries.{event_between};
 ghost use Rattle.model_histories.specs.Legal.{Belongs};
 ghost use Rattle.race_gate.specs.Books.{KeepsStill, KeepsOn, OptionKeepsStill, OptionKeepsOn, OptionKeepsRunning};
 ghost use Rattle.race_gate.specs.Books.{OptionAnswersAccess, OptionHasReducer};
-ghost use Rattle.model_races.specs.Accesses.{cell_access, is_granted};
+ghost use Rattle.model_races.specs.Accesses.{is_granted};
 ghost use Rattle.model_races.specs.Memory.{effect_on_cell};
 ghost use Rattle.model_races.specs.Verdicts.{IfValue};
-ghost use Rattle.race_gate.specs.Steps.{IsControl, FollowsWith, GoesOn, IsJudgedBy, TakesPlace};
+ghost use Rattle.race_gate.specs.Steps.{FollowsWith, GoesOn, IsJudgedBy, TakesPlace};
 
+use crate::access::{CellAct, ControlAct, ReducerAct, access_of};
 use crate::reducers::ReducerTracks;
 use access_table::{is_memory, rule};
 use model_histories::{Answer, GateFault};
@@ -45,16 +47,16 @@ pub fn control<A: Allocator + Clone>(
     strands: &mut Strands<A>,
     reducers: &mut Option<ReducerTracks<A>>,
     strand: u32,
-    act: Act,
+    act: ControlAct,
 ) -> Result<Answer, GateFault>
-    requires control { IsControl act }
     requires follows { FollowsWith strands.old reducers.old }
     requires runs { Runs strands.old strand }
-    requires synced { act ≡ Act.Return → (history : History) → Follows strands.old history → IsSynced (stack history strand) }
+    requires synced { act ≡ ControlAct.Return → (history : History) → Follows strands.old history → IsSynced (stack history strand) }
     requires numbers { (history : History) → Follows strands.old history → HasFewLeft history → ⊥ }
-    ensures ok { IfOk result (λ answer. (history : History) → Follows strands.old history → GoesOn history strand act answer strands.new) }
+    ensures ok { IfOk result (λ answer.
+        (history : History) → Follows strands.old history → GoesOn history strand (act_of_control act) answer strands.new) }
     ensures books { IfOk result (λ answer.
-        (event : Event) → event_between strand act answer ≡ Some event → OptionKeepsOn reducers.old reducers.new event) }
+        (event : Event) → event_between strand (act_of_control act) answer ≡ Some event → OptionKeepsOn reducers.old reducers.new event) }
     ensures err { IfErr result (λ fault. fault ≡ GateFault.Memory) }
     ensures still { OnErr result ((history : History) → Follows strands.old history → Follows strands.new history) }
     ensures books_still { OnErr result (OptionKeepsStill reducers.old reducers.new) }
@@ -71,16 +73,16 @@ fn control_with<A: Allocator + Clone>(
     strands: &mut Strands<A>,
     reducers: &mut ReducerTracks<A>,
     strand: u32,
-    act: Act,
+    act: ControlAct,
 ) -> Result<Answer, GateFault>
-    requires control { IsControl act }
     requires follows { FollowsWith strands.old (Some reducers.old) }
     requires runs { Runs strands.old strand }
-    requires synced { act ≡ Act.Return → (history : History) → Follows strands.old history → IsSynced (stack history strand) }
+    requires synced { act ≡ ControlAct.Return → (history : History) → Follows strands.old history → IsSynced (stack history strand) }
     requires numbers { (history : History) → Follows strands.old history → HasFewLeft history → ⊥ }
-    ensures ok { IfOk result (λ answer. (history : History) → Follows strands.old history → GoesOn history strand act answer strands.new) }
+    ensures ok { IfOk result (λ answer.
+        (history : History) → Follows strands.old history → GoesOn history strand (act_of_control act) answer strands.new) }
     ensures books { IfOk result (λ answer.
-        (event : Event) → event_between strand act answer ≡ Some event → KeepsOn reducers.old reducers.new event) }
+        (event : Event) → event_between strand (act_of_control act) answer ≡ Some event → KeepsOn reducers.old reducers.new event) }
     ensures err { IfErr result (λ fault. fault ≡ GateFault.Memory) }
     ensures still { OnErr result (strands.new ≡ strands.old) }
     ensures books_still { OnErr result (KeepsStill reducers.old reducers.new) }
@@ -96,23 +98,22 @@ fn control_with<A: Allocator + Clone>(
 fn answer_to<A: Allocator>(
     strands: &mut Strands<A>,
     strand: u32,
-    act: Act,
+    act: ControlAct,
 ) -> Result<Answer, GateFault>
-    requires control { IsControl act }
     requires follows { FollowsSome strands.old }
     requires runs { Runs strands.old strand }
-    requires synced { act ≡ Act.Return → (history : History) → Follows strands.old history → IsSynced (stack history strand) }
+    requires synced { act ≡ ControlAct.Return → (history : History) → Follows strands.old history → IsSynced (stack history strand) }
     requires numbers { (history : History) → Follows strands.old history → HasFewLeft history → ⊥ }
-    ensures ok { IfOk result (λ answer. (history : History) → Follows strands.old history → GoesOn history strand act answer strands.new) }
+    ensures ok { IfOk result (λ answer.
+        (history : History) → Follows strands.old history → GoesOn history strand (act_of_control act) answer strands.new) }
     ensures err { IfErr result (λ fault. fault ≡ GateFault.Memory) }
     ensures still { OnErr result (strands.new ≡ strands.old) }
 {
     match act {
-        Act::Spawn => spawn(strands, strand),
-        Act::Sync => Ok(sync(strands, strand)),
-        Act::Call => call(strands, strand),
-        Act::Return => Ok(ret(strands, strand)),
-        _ => unreachable!(),
+        ControlAct::Spawn => spawn(strands, strand),
+        ControlAct::Sync => Ok(sync(strands, strand)),
+        ControlAct::Call => call(strands, strand),
+        ControlAct::Return => Ok(ret(strands, strand)),
     }
 }
 
@@ -187,22 +188,20 @@ pub fn judge_access<A: Allocator>(
     memory: &mut [u64],
     number: u32,
     strand: u32,
-    act: Act,
-    access: CellAccess,
+    act: CellAct,
 ) -> Answer
-    requires is { cell_access act ≡ Some access }
     requires runs { Runs strands.now strand }
     requires stands { StandsOn shadow.old strands.now }
-    requires in_shadow { access.location < length shadow.old }
-    requires in_memory { access.location < length memory.old }
-    ensures belongs { Belongs act result }
+    requires in_shadow { (access_of act).location < length shadow.old }
+    requires in_memory { (access_of act).location < length memory.old }
+    ensures belongs { Belongs (act_of_cell act) result }
     ensures judged { (history : History) (accesses : List Access) → Follows strands.now history → Remembers shadow.old history accesses →
-        IsJudgedBy history accesses strand access number result shadow.new }
+        IsJudgedBy history accesses strand (access_of act) number result shadow.new }
     ensures locations { length shadow.new ≡ length shadow.old }
-    ensures value { IfValue result (λ value. value ≡ slice_index memory.old access.location) }
-    ensures memory { TakesPlace (effect_on_cell act result) memory.old memory.new }
+    ensures value { IfValue result (λ value. value ≡ slice_index memory.old (access_of act).location) }
+    ensures memory { TakesPlace (effect_on_cell (act_of_cell act) result) memory.old memory.new }
 {
-    let CellAccess { kind, location } = access;
+    let CellAccess { kind, location } = access_of(act);
     if let Some(witness) = shadow.find(strands, location, kind, strand) {
         return Answer::Refused {
             rule: rule(witness.kind, kind),
@@ -215,27 +214,24 @@ pub fn judge_access<A: Allocator>(
 
 /// Does an access of a cell.
 #[inline(always)]
-fn perform(memory: &mut [u64], act: Act) -> Answer
-    requires in_memory { (access : CellAccess) → cell_access act ≡ Some access → access.location < length memory.old }
-    requires access { IsSome (cell_access act) }
-    ensures belongs { Belongs act result }
+fn perform(memory: &mut [u64], act: CellAct) -> Answer
+    requires { (access_of act).location < length memory.old }
+    ensures belongs { Belongs (act_of_cell act) result }
     ensures granted { is_granted result ≡ true }
-    ensures value { (access : CellAccess) → cell_access act ≡ Some access →
-        IfValue result (λ value. value ≡ slice_index memory.old access.location) }
-    ensures memory { TakesPlace (effect_on_cell act result) memory.old memory.new }
+    ensures value { IfValue result (λ value. value ≡ slice_index memory.old (access_of act).location) }
+    ensures memory { TakesPlace (effect_on_cell (act_of_cell act) result) memory.old memory.new }
 {
     match act {
-        Act::Read(location) => Answer::Value(memory[location as usize]),
-        Act::Write(location, value) => {
+        CellAct::Read(location) => Answer::Value(memory[location as usize]),
+        CellAct::Write(location, value) => {
             memory[location as usize] = value;
             Answer::Granted
         }
-        Act::Bump(location, value) => {
+        CellAct::Bump(location, value) => {
             let cell = &mut memory[location as usize];
             *cell = cell.wrapping_add(value);
             Answer::Granted
         }
-        _ => unreachable!(),
     }
 }
 
@@ -246,11 +242,11 @@ pub fn judge_reducer<A: Allocator + Clone>(
     reducers: &mut Option<ReducerTracks<A>>,
     number: u32,
     strand: u32,
-    act: Act,
+    act: ReducerAct,
 ) -> Result<Answer, GateFault>
-    requires in_range { OptionHasReducer reducers.old act }
+    requires in_range { OptionHasReducer reducers.old (reducer_of act) }
     requires keeps { OptionKeepsRunning reducers.old strand }
-    ensures ok { IfOk result (OptionAnswersAccess reducers.old reducers.new number strand act) }
+    ensures ok { IfOk result (OptionAnswersAccess reducers.old reducers.new number strand (act_of_reducer act)) }
     ensures err { IfErr result (λ fault. fault ≡ GateFault.Memory) }
     ensures still { OnErr result (OptionKeepsStill reducers.old reducers.new) }
 {

@@ -6,13 +6,12 @@ ghost use Rattle.sp_labels.specs.Roster.{Follows};
 ghost use Rattle.shadow_history.specs.Shadow.{Remembers};
 ghost use Rattle.race_gate.specs.Kept.{IsKept, IsReady, OpensTracks, with_entry};
 ghost use Rattle.model_histories.specs.States.{GateState};
-ghost use Rattle.race_gate.specs.Accesses.{sort_of};
+ghost use Rattle.race_gate.specs.Accesses.{act_of_control, act_of_cell, act_of_reducer};
 
-use crate::access::{Sort, sort_of};
+use crate::access::{CellAct, ControlAct, ReducerAct, Sort, sort_of};
 use crate::reducers::{ReducerTracks, opening_reducers};
 use crate::step::{control, judge_access, judge_reducer};
 use model_histories::{Answer, GateFault};
-use model_races::CellAccess;
 use shadow_history::Shadow;
 use sp_labels::Strands;
 use std::alloc::{AllocError, Allocator};
@@ -74,22 +73,22 @@ impl<A: Allocator + Clone> Tracks<A> {
             × IsKept state self.new.strands self.new.shadow self.new.reducers) }
     {
         match sort_of(request.act) {
-            Sort::Cell(access) => Ok(self.access_cell(memory, number, request, access)),
-            Sort::Reducer => self.access_reducer(number, request),
-            Sort::Control => self.control(number, request),
+            Sort::Cell(act) => Ok(self.access_cell(memory, number, request, act)),
+            Sort::Reducer(act) => self.access_reducer(number, request, act),
+            Sort::Control(act) => self.control(number, request, act),
         }
     }
 
-    /// The same of a request that is an access of a cell. It takes no memory.
+    /// The same of a request whose act is this access of a cell. It takes no memory.
     #[inline(always)]
     pub fn access_cell(
         &mut self,
         memory: &mut [u64],
         number: u32,
         request: Request,
-        access: CellAccess,
+        act: CellAct,
     ) -> Answer
-        requires is { sort_of request.act ≡ Sort.Cell access }
+        requires is { request.act ≡ act_of_cell act }
         requires ready { (state : GateState) × IsReady state self.old.strands self.old.shadow self.old.reducers memory.old request number }
         ensures { (state : GateState) → IsReady state self.old.strands self.old.shadow self.old.reducers memory.old request number →
             IsKept (with_entry state request result memory.new) self.new.strands self.new.shadow self.new.reducers }
@@ -100,41 +99,45 @@ impl<A: Allocator + Clone> Tracks<A> {
             memory,
             number,
             request.strand,
-            request.act,
-            access,
+            act,
         )
     }
 
-    /// The same of a request that is an access of a reducer.
+    /// The same of a request whose act is this access of a reducer.
     #[inline(always)]
-    pub fn access_reducer(&mut self, number: u32, request: Request) -> Result<Answer, GateFault>
-        requires is { sort_of request.act ≡ Sort.Reducer }
+    pub fn access_reducer(
+        &mut self,
+        number: u32,
+        request: Request,
+        act: ReducerAct,
+    ) -> Result<Answer, GateFault>
+        requires is { request.act ≡ act_of_reducer act }
         requires ready { (state : GateState) × (cells : List ℕ) ×
             IsReady state self.old.strands self.old.shadow self.old.reducers cells request number }
-        ensures { (state : GateState) (cells : List ℕ) → IsReady state self.old.strands self.old.shadow self.old.reducers cells request number →
-            MatchResult result
+        ensures { (state : GateState) (cells : List ℕ) →
+            IsReady state self.old.strands self.old.shadow self.old.reducers cells request number → MatchResult result
             (λ answer. IsKept (with_entry state request answer cells) self.new.strands self.new.shadow self.new.reducers)
             (λ fault. (fault ≡ GateFault.Memory) × IsKept state self.new.strands self.new.shadow self.new.reducers) }
     {
-        judge_reducer(&mut self.reducers, number, request.strand, request.act)
+        judge_reducer(&mut self.reducers, number, request.strand, act)
     }
 
-    /// The same of a request that is an act of control.
+    /// The same of a request whose act is this act of control.
     #[inline(always)]
-    pub fn control(&mut self, number: u32, request: Request) -> Result<Answer, GateFault>
-        requires is { sort_of request.act ≡ Sort.Control }
+    pub fn control(
+        &mut self,
+        number: u32,
+        request: Request,
+        act: ControlAct,
+    ) -> Result<Answer, GateFault>
+        requires is { request.act ≡ act_of_control act }
         requires ready { (state : GateState) × (cells : List ℕ) ×
             IsReady state self.old.strands self.old.shadow self.old.reducers cells request number }
-        ensures { (state : GateState) (cells : List ℕ) → IsReady state self.old.strands self.old.shadow self.old.reducers cells request number →
-            MatchResult result
+        ensures { (state : GateState) (cells : List ℕ) →
+            IsReady state self.old.strands self.old.shadow self.old.reducers cells request number → MatchResult result
             (λ answer. IsKept (with_entry state request answer cells) self.new.strands self.new.shadow self.new.reducers)
             (λ fault. (fault ≡ GateFault.Memory) × IsKept state self.new.strands self.new.shadow self.new.reducers) }
     {
-        control(
-            &mut self.strands,
-            &mut self.reducers,
-            request.strand,
-            request.act,
-        )
+        control(&mut self.strands, &mut self.reducers, request.strand, act)
     }
 }

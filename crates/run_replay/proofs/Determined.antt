@@ -29,7 +29,6 @@ use Rattle.model_histories.specs.declared.answer.Entry.{Entry}
 use Rattle.model_histories.specs.Entries.{Entries, event_between, event_of, control_part}
 use Rattle.model_histories.specs.Shapes.{Shape}
 use Rattle.model_histories.specs.Legal.{Belongs, IsLegal}
-use Rattle.race_gate.specs.Steps.{IsControl}
 use Rattle.model_races.specs.Memory.{cell_value}
 use Rattle.model_races.specs.Verdicts.{IsRefused, IfValue, IsRightVerdict}
 use Rattle.model_races.specs.Reducers.{step_with, steps_of}
@@ -47,6 +46,13 @@ control_act Act.Spawn = spawns
 control_act Act.Sync = syncs
 control_act Act.Call = calls
 control_act _ = returns
+
+abbrev IsControl : Act → Type 0
+IsControl Act.Spawn = Unit {0}
+IsControl Act.Sync = Unit {0}
+IsControl Act.Call = Unit {0}
+IsControl Act.Return = Unit {0}
+IsControl act = ⊥
 
 -- an answer that belongs is an event that answers the act
 answers_of : (history : History) (strand : ℕ) (act : Act) (answer : Answer) → IsControl act → Belongs act answer →

@@ -3,12 +3,10 @@
 ghost use Rattle.std.specs.Prelude.{◌≡◌, ◌≤◌, length};
 ghost use Rattle.model_reducers.specs.Limits.{most_reducers};
 ghost use Rattle.model_histories.specs.Shapes.{most_entries};
-ghost use Rattle.race_gate.specs.Accesses.{sort_of};
-ghost use Rattle.race_gate.specs.declared.access.Sort.{Sort};
-ghost use Rattle.model_races.specs.declared.access.CellAccess.{CellAccess};
+ghost use Rattle.race_gate.specs.Accesses.{act_of_cell, act_of_reducer};
 
 use crate::checks::equal;
-use race_gate::{Answer, Core, GateFault, Receipt, Reply};
+use race_gate::{Answer, CellAct, ControlAct, Core, GateFault, Receipt, ReducerAct, Reply};
 use std::alloc::{AllocError, Global};
 use std::process::Abort;
 use std::test::Fail;
@@ -143,23 +141,23 @@ const REPLIES: [Reply; 5] = [
 ];
 
 /// The reply to an access of a cell.
-fn reply_to_cell(core: &mut Core<Global>, request: Request) -> Reply
-    requires { (access : CellAccess) × sort_of request.act ≡ Sort.Cell access }
+fn reply_to_cell(core: &mut Core<Global>, request: Request, act: CellAct) -> Reply
+    requires { request.act ≡ act_of_cell act }
 {
     match core.check(request) {
-        Ok(()) => Reply::Done(core.answer_cell(request)),
+        Ok(()) => Reply::Done(core.answer_cell(request, act)),
         Err(fault) => Reply::Illegal(fault),
     }
 }
 
 /// The reply to an access of a reducer.
-fn reply_to_reducer(core: &mut Core<Global>, request: Request) -> Reply
-    requires { sort_of request.act ≡ Sort.Reducer }
+fn reply_to_reducer(core: &mut Core<Global>, request: Request, act: ReducerAct) -> Reply
+    requires { request.act ≡ act_of_reducer act }
 {
     if let Err(fault) = core.check(request) {
         return Reply::Illegal(fault);
     }
-    match core.answer_reducer(request) {
+    match core.answer_reducer(request, act) {
         Ok(receipt) => Reply::Done(receipt),
         Err(fault) => Reply::Illegal(fault),
     }
@@ -168,11 +166,11 @@ fn reply_to_reducer(core: &mut Core<Global>, request: Request) -> Reply
 /// The replies of a core that was asked nothing.
 fn replies_of(core: &mut Core<Global>) -> [Reply; 5] {
     [
-        reply_to_cell(core, request!(Act::Write(0, 5))),
-        reply_to_reducer(core, request!(Act::Update(0, 2))),
-        core.reply_to_control(request!(Act::Sync)),
+        reply_to_cell(core, request!(Act::Write(0, 5)), CellAct::Write(0, 5)),
+        reply_to_reducer(core, request!(Act::Update(0, 2)), ReducerAct::Update(0, 2)),
+        core.reply_to_control(request!(Act::Sync), ControlAct::Sync),
         core.reply(request!(Act::Read(0))),
-        reply_to_cell(core, request!(Act::Read(0))),
+        reply_to_cell(core, request!(Act::Read(0)), CellAct::Read(0)),
     ]
 }
 

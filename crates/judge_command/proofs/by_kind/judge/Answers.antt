@@ -1,7 +1,5 @@
 use Rattle.std.proofs.Common.{rules, [], ◌∷◌, ◌++◌, refl, sym, ap, map}
-use Rattle.model_accesses.specs.declared.kind.Kind.TheVariants.{Read, Write, Bump}
 use Rattle.trace_text.specs.Traces.{contents}
-use Rattle.race_gate.specs.Accesses.{sort_of}
 use Rattle.race_gate.specs.Shapes.{shape_of}
 use Rattle.command_streams.proofs.Telling.{none_told}
 use Rattle.judge_command.proofs.Meeting.{judged_more, told_trace, has_words, judged_and_told}
@@ -21,15 +19,6 @@ loop-line-init g c = rw c.make_room.ensures (record {
   );
   whole = search rules;
 })
-
-pub tell_cell-requires-clause-is : goal.tell_cell-requires-clause-is
-tell_cell-requires-clause-is g c = (record { kind = Read; location = c.in-Read.field-0 }, ap sort_of c.in-Read.is)
-
-pub tell_cell-requires-in-Write-clause-is : goal.tell_cell-requires-in-Write-clause-is
-tell_cell-requires-in-Write-clause-is g c = (record { kind = Write; location = c.in-Write.field-0 }, ap sort_of c.in-Write.is)
-
-pub tell_cell-requires-in-Bump-clause-is : goal.tell_cell-requires-in-Bump-clause-is
-tell_cell-requires-in-Bump-clause-is g c = (record { kind = Bump; location = c.in-Bump.field-0 }, ap sort_of c.in-Bump.is)
 
 pub tell-requires : goal.tell-requires
 tell-requires g c =

@@ -7,11 +7,13 @@ use Rattle.model_accesses.specs.declared.request.Act.TheVariants as act
 use Rattle.model_accesses.specs.declared.witness.Witness.{Witness}
 use Rattle.shadow_history.specs.Shadow.{Remembers}
 use Rattle.model_accesses.specs.Accesses.{access_of_witness}
+use Rattle.model_races.specs.declared.access.CellAccess.{CellAccess}
 use Rattle.model_histories.specs.declared.answer.Answer.{Answer}
 use Rattle.model_histories.specs.declared.answer.Answer.TheVariants.{Split, Same, Joined, Waits, Resumed, Ended, EndedJoined, Finished, Granted, Value, Refused, Unset}
+use Rattle.race_gate.specs.Accesses.{act_of_cell}
 use Rattle.model_races.specs.Accesses.{is_granted}
 use Rattle.model_races.specs.Memory.{effect_on_cell}
-use Rattle.race_gate.specs.Steps.{after}
+use Rattle.race_gate.specs.Steps.{IsJudgedBy, after}
 use Rattle.model_races.specs.Verdicts.{IsRefused, IfRefused}
 use Rattle.race_gate.proofs.step.judge_access.Goals as goal
 
@@ -63,24 +65,25 @@ no_race Race tells race = let some = tells.1 race in absurd (cc)
 pub returns-in-Some-clause-judged : goal.returns-in-Some-clause-judged
 returns-in-Some-clause-judged g c history accesses follows remembers =
     let found = c.in-Some.ensures.witness history accesses follows remembers in
-    record {
-      refused = ((λ t. (access_of_witness c.args.access.location c.in-Some.witness, found.races)), (λ race. tt));
+    subst (λ (access : CellAccess). IsJudgedBy history accesses c.args.strand access c.args.number (Refused c.rule.result c.in-Some.witness) c.args.shadow.now)
+    c.access_of-kind.ensures (record {
+      refused = ((λ t. (access_of_witness c.access_of-kind.result.location c.in-Some.witness, found.races)), (λ race. tt));
       witness = (found.races, c.rule.ensures.value);
       remembers = subst (λ xs. Remembers c.args.shadow.now history xs) (sym (append-nil accesses)) remembers;
-    }
+    })
 
 pub returns-in-Some-clause-memory : goal.returns-in-Some-clause-memory
 returns-in-Some-clause-memory g c = record {
   len = refl;
-  each = λ cell below. leaves_each c.args.act c.rule.result c.in-Some.witness cell _;
+  each = λ cell below. leaves_each (act_of_cell c.args.act) c.rule.result c.in-Some.witness cell _;
 }
 
 pub returns-clause-judged : goal.returns-clause-judged
 returns-clause-judged g c history accesses follows remembers =
     let exact = c.in_default.ensures.exact history accesses follows remembers in
     let not = not_refused c.perform.result c.perform.ensures.granted in
-    record {
+    subst (λ (access : CellAccess). IsJudgedBy history accesses c.args.strand access c.args.number c.perform.result c.add.new.self) c.access_of-kind.ensures (record {
       refused = ((λ t. absurd (not t)), (λ race. absurd (no_race _ exact race)));
       witness = names_nothing c.perform.result _ not;
       remembers = rw c.perform.ensures.granted (c.add.ensures.added history accesses follows remembers);
-    }
+    })
