@@ -1,7 +1,8 @@
 //! The frames of a history, and in which of them each strand stands.
 
-ghost use Rattle.std.specs.Prelude.{◌≡◌, ◌≢◌, ◌⊎◌, ◌↔◌, ◌<◌, ◌++◌, [], ◌∷◌, ℕ, List, length, slice_get, Some, None, IfOk, IfErr, IfSome, OnOk, Err};
-ghost use Rattle.model_histories.specs.Shapes.{most_entries};
+ghost use Rattle.std.specs.Prelude.{◌≡◌, ◌≢◌, ◌⊎◌, ◌↔◌, ◌<◌, ◌++◌, [], ◌∷◌, ℕ, List, length, slice_get, Some, None, MatchOption, IfOk, IfErr, IfSome, OnOk, Err};
+ghost use Rattle.model_bodies.specs.Codes.{Code};
+ghost use Rattle.model_histories.specs.Shapes.{Shape, most_entries};
 ghost use Rattle.model_histories.specs.States.{GateState, opening};
 ghost use Rattle.frame_steps.specs.States.{FrameState};
 ghost use Rattle.model_programs.specs.Exchanges.{Exchange};
@@ -234,6 +235,19 @@ impl<A: Allocator + Copy> FrameTable<A> {
         }
     }
 
+    /// The number of the frame in which the strand of an entry stands, and its slot. None where no strand has this number.
+    #[inline(always)]
+    fn find_slot(&self, entry: Entry) -> Option<(u32, u32)>
+        requires plays { (functions : List Code) × (shape : Shape) × (state : GateState) ×
+            PlaysIn functions shape state self.now.slots.items self.now.homes.items self.now.places.items }
+        ensures { MatchOption result (slice_get self.now.places.items entry.request.strand ≡ None) (λ found.
+            (slice_get self.now.places.items entry.request.strand ≡ Some found.0) × (slice_get self.now.homes.items found.0 ≡ Some found.1)
+            × (found.1 < length self.now.slots.items)) }
+    {
+        let place = *self.places.get(entry.request.strand as usize)?;
+        Some((place, self.homes[place as usize]))
+    }
+
     /// The index of the element that an entry reads or writes, where it is not below the length of the array, by the frame that asks it.
     pub fn next_wrap<B: Allocator>(&self, program: &Program<B>, entry: Entry) -> Option<u64>
         requires plays { (state : GateState) × PlaysIn program.now.functions (shape_in program.now) state
@@ -242,11 +256,7 @@ impl<A: Allocator + Copy> FrameTable<A> {
             self.now.slots.items self.now.homes.items self.now.places.items → IsEntered entry state next → (index : ℕ) →
             (result ≡ Some index) ↔ EntryWraps program.now.functions (shape_in program.now) state.history entry index }
     {
-        let place = match self.places.get(entry.request.strand as usize) {
-            Some(place) => *place,
-            None => return None,
-        };
-        let home = self.homes[place as usize];
+        let (place, home) = self.find_slot(entry)?;
         slot_wrap(&self.slots[home as usize], place as usize, program)
     }
 
@@ -262,11 +272,9 @@ impl<A: Allocator + Copy> FrameTable<A> {
             self.old.slots.items self.old.homes.items self.old.places.items →
             result ≡ Err Misfit.Strange → IsMisfit program.now.functions (shape_in program.now) entry state }
     {
-        let place = match self.places.get(entry.request.strand as usize) {
-            Some(place) => *place,
-            None => return Err(Misfit::Strange),
+        let Some((place, home)) = self.find_slot(entry) else {
+            return Err(Misfit::Strange);
         };
-        let home = self.homes[place as usize];
         let target = advance_slot(
             &mut self.slots[home as usize],
             place as usize,
