@@ -134,6 +134,23 @@ pub record Forks (es : Entries) (s o : ℕ) (p : Parting) : Type 0 where
   pub one : IsPrefix (address (control_part es) p.spawner ▹ a) (address (control_part es) s)
   pub two : IsPrefix (address (control_part es) p.spawner ▹ b) (address (control_part es) o)
 
+misses : (es : Entries) → Legal (control_part es) → (x y : ℕ) (a : Address) → Begun (control_part es) x → Begun (control_part es) y →
+    address (control_part es) x ≡ a → (Reaches (control_part es) x y → ⊥) → reaches a (address (control_part es) y) ≡ false
+misses es l x y a bx by stands none = elim (cases_Bool (reaches a (address (control_part es) y))) [
+  | inl e ↦ absurd (none (precedes_reach (control_part es) l x y bx by (ap (λ (z : Address). reaches z (address (control_part es) y)) stands ∙ e)))
+  | inr e ↦ e
+]
+
+-- the one strand came by the next
+pub next_begins : (es : Entries) → Legal (control_part es) → (s o : ℕ) (p : Parting) → IsParting es s o p → Begun (control_part es) p.by_next →
+    IsPrefix (address (control_part es) p.spawner ▹ next) (address (control_part es) p.by_next)
+next_begins es l s o p is begun =
+    let m : OfSpawn es p.entry p.spawner p.spawned = of_spawn es l p.entry p.spawner p.spawned is.spawn in
+    let h = control_part es in
+    (is_prefix-decides (address h p.spawner ▹ next) (address h p.by_next)).0 (reaches-side next refl (address h p.spawner) (address h p.by_next)
+    (ap (λ (z : Address). reaches z (address h p.by_next)) (sym m.next_address) ∙ reach_precedes h l p.spawned.next p.by_next is.next_reaches)
+    (misses es l p.spawned.child p.by_next (address h p.spawner ▹ child) m.child_begun begun m.child_address is.child_misses))
+
 forks : (es : Entries) → Legal (control_part es) → (s o : ℕ) → Begun (control_part es) s → Begun (control_part es) o → (p : Parting) → IsParting es s o p →
     Forks es s o p
 forks es l s o bs bo p is = go is.sides
@@ -150,22 +167,13 @@ forks es l s o bs bo p is = go is.sides
     by_next_begun : Begun (control_part es) p.by_next
     by_next_begun = elim is.sides [ inl t ↦ subst (Begun (control_part es)) (sym t.1) bo | inr t ↦ subst (Begun (control_part es)) (sym t.1) bs ]
 
-    misses : (x y : ℕ) (a : Address) → Begun (control_part es) x → Begun (control_part es) y → at x ≡ a → (Reaches (control_part es) x y → ⊥) →
-        reaches a (at y) ≡ false
-    misses x y a bx by stands none = elim (cases_Bool (reaches a (at y))) [
-      | inl e ↦ absurd (none (precedes_reach (control_part es) l x y bx by (ap (λ (z : Address). reaches z (at y)) stands ∙ e)))
-      | inr e ↦ e
-    ]
-
     begins_child : IsPrefix (at p.spawner ▹ child) (at p.by_child)
     begins_child = (is_prefix-decides (at p.spawner ▹ child) (at p.by_child)).0 (reaches-side child refl (at p.spawner) (at p.by_child)
         (ap (λ (z : Address). reaches z (at p.by_child)) (sym m.child_address) ∙ reach_precedes (control_part es) l p.spawned.child p.by_child is.child_reaches)
-        (misses p.spawned.next p.by_child (at p.spawner ▹ next) m.next_begun by_child_begun m.next_address is.next_misses))
+        (misses es l p.spawned.next p.by_child (at p.spawner ▹ next) m.next_begun by_child_begun m.next_address is.next_misses))
 
     begins_next : IsPrefix (at p.spawner ▹ next) (at p.by_next)
-    begins_next = (is_prefix-decides (at p.spawner ▹ next) (at p.by_next)).0 (reaches-side next refl (at p.spawner) (at p.by_next)
-        (ap (λ (z : Address). reaches z (at p.by_next)) (sym m.next_address) ∙ reach_precedes (control_part es) l p.spawned.next p.by_next is.next_reaches)
-        (misses p.spawned.child p.by_next (at p.spawner ▹ child) m.child_begun by_next_begun m.child_address is.child_misses))
+    begins_next = next_begins es l s o p is by_next_begun
 
     go : ((p.by_child ≡ s) × (p.by_next ≡ o)) ⊎ ((p.by_child ≡ o) × (p.by_next ≡ s)) → Forks es s o p
     go (inl t) = record {

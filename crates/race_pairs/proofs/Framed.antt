@@ -72,7 +72,7 @@ unmade (entry ∷ entries) l x le =
     unmade_with (control_part entries) (event_of entry) (suc (length entries)) (frames entries) l
     (unmade entries (legal_rest (event_of entry) (control_part entries) l)) x le
 
-unused_with : (h : History) (event : Option Event) → unused h ≤ unused (with_event event h)
+pub unused_with : (h : History) (event : Option Event) → unused h ≤ unused (with_event event h)
 unused_with h (Some (split s c n j true)) = omega arith
 unused_with h (Some (split s c n j false)) = omega arith
 unused_with h (Some (call s)) = omega arith
@@ -85,7 +85,7 @@ unused_with h (Some (ended_joined s j)) = omega arith
 unused_with h (Some (finished s)) = omega arith
 unused_with h None = omega arith
 
-unused_before : (later earlier : Entries) → unused (control_part earlier) ≤ unused (control_part (later ++ earlier))
+pub unused_before : (later earlier : Entries) → unused (control_part earlier) ≤ unused (control_part (later ++ earlier))
 unused_before [] earlier = omega arith
 unused_before (entry ∷ later) earlier =
     omega (arith, unused_before later earlier, unused_with (control_part (later ++ earlier)) (event_of entry))

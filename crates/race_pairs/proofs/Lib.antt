@@ -22,8 +22,12 @@ pub mod Counted
 pub mod Placed
 pub mod Grown
 pub mod Nearer
+pub mod BlockJoins
+pub mod Ways
+pub mod Homes
 pub mod Linked
 pub mod Encountered
+pub mod SyncPlaces
 pub mod SpawnLines
 pub mod Knowing
 pub mod Witnesses

@@ -28,6 +28,7 @@ use Rattle.race_pairs.specs.declared.encounter.Encounter.{Encounter}
 use Rattle.race_pairs.specs.Refusals.{entry_at, strand_at, access_at, IsSideAt}
 use Rattle.race_pairs.specs.Kept.{IsRace}
 use Rattle.race_pairs.specs.Onward.{IsToward}
+use Rattle.race_pairs.specs.Syncs.{OrdersOnward}
 use Rattle.race_pairs.specs.Digests.{IsDigest}
 
 -- the frames of the strand of the entry with this number, before it; none where there is no such entry
@@ -87,6 +88,7 @@ pub record IsEncounter (told : List Entry) (pair : Pair) (encounter : Encounter)
   pub witness_chain : encounter.witness_chain.items ≡ map (link_at told) (chain_at told pair.witness)
   pub parting : PartAt told pair encounter.parting
   pub onward : GoesOn told pair encounter.parting encounter.onward
+  pub orders : OrdersOnward told encounter.parting encounter.onward
   pub outstanding : IsOpenAt told pair encounter.outstanding
 
 -- the race is one of these entries, whose digest this is

@@ -21,4 +21,5 @@ pub mod Kept
 pub mod Digests
 pub mod Groups
 pub mod Onward
+pub mod Syncs
 pub mod Encounters
