@@ -2,7 +2,7 @@
 -- a, b: addresses; v, w: words; h: a history; x, y: strands; in a split, s is the spawner, c its child, n its next and j the join
 use Rattle.std.proofs.Common.{◌≡◌, ◌⊎◌, inl, inr, ℕ, ◌<◌, ◌≤◌, Bool, true, false, [], ◌∷◌, ◌++◌, Some, refl, sym, ap, ◌∙◌, subst, subst₂, append_assoc, arith}
 use Rattle.model_strands.specs.Address.{Word, child, next, join, Address}
-use Rattle.law_addresses.specs.Address.{is_fork, IsPrefix, PartBy}
+use Rattle.law_addresses.specs.Address.{is_fork, IsPrefix}
 use Rattle.law_addresses.proofs.Blocks.{prefix-reaches, inside-reaches}
 use Rattle.law_addresses.proofs.Branches.{cases_last}
 use Rattle.law_addresses.proofs.Relations.{reaches-decides, reaches-transitive}

@@ -254,7 +254,7 @@ spawn_kept F G T S R s number place spawned (outer, frames_are, stands) place_is
     (kept_spawn F T S e es kept s spawned.child spawned.next spawned.join outer spawned.first next_is (stands es kept)))
 
 pub call_kept : (F G : List Frame) (T U : List Turn) (S R : List Strand) (s number place : ℕ) →
-    IsFrameMore F T S (record { number = number; strand = s; spawned = None }) G → place ≡ suc (length F) → IsTurnMore T S s number place U R →
+    IsFrameMore F T S (record { number = number; strand = s; spawned = None }) G → place ≡ suc (length F) → IsTurnMore T S (record { strand = s; number = number; frame = place }) U R →
     (es : Entries) (e : Entry) → AreKept F T S es → number ≡ suc (length es) → IsNext es e (call s) → AreKept G U R (e ∷ es)
 call_kept F G T U S R s number place (outer, frames_are, stands) place_is (it, here, turns_are, strands_are) es e kept number_is next_is =
     let frames_is : G ≡ F ++ record { opener = record { number = suc (length es); strand = s; spawned = None }; outer = outer } ∷ [] =
@@ -265,7 +265,7 @@ call_kept F G T U S R s number place (outer, frames_are, stands) place_is (it, h
     subst (λ (X : List Frame). AreKept X U R (e ∷ es)) (sym frames_is) (subst (λ (Y : List Turn). AreKept (F ++ record { opener = record { number = suc (length es); strand = s; spawned = None }; outer = outer } ∷ []) Y R (e ∷ es)) (sym turns_is)
     (subst (λ (Z : List Strand). AreKept (F ++ record { opener = record { number = suc (length es); strand = s; spawned = None }; outer = outer } ∷ []) (T ++ record { number = suc (length es); frame = suc (length F); before = it.turn } ∷ []) Z (e ∷ es)) (sym strands_are) (kept_call F T S e es kept s outer next_is (stands es kept) it here)))
 
-pub return_kept : (F : List Frame) (T U : List Turn) (S R : List Strand) (s number place : ℕ) → IsTurnMore T S s number place U R →
+pub return_kept : (F : List Frame) (T U : List Turn) (S R : List Strand) (s number place : ℕ) → IsTurnMore T S (record { strand = s; number = number; frame = place }) U R →
     (es : Entries) (e : Entry) → AreKept F T S es → number ≡ suc (length es) → IsNext es e (resumed s) → Encloses F place (behind (frames es s)) →
     AreKept F U R (e ∷ es)
 return_kept F T U S R s number place (it, here, turns_are, strands_are) es e kept number_is next_is encloses =

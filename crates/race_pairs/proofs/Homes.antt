@@ -2,19 +2,19 @@
 -- of it by an entry.
 -- g: the block; h: a history; f: the frames of strands; x, y: strands; k: the number of an event; o: that of the entry that led out of the
 -- block; S: the number of the spawn, s its spawner, b what it began
-use Rattle.std.proofs.Common.{◌≡◌, ◌≢◌, ◌⊎◌, inl, inr, ℕ, suc, ◌+◌, ◌<◌, ◌≤◌, Bool, true, false, List, [], ◌∷◌, ◌++◌, length, Option, Some, None, refl, sym, ap, ◌∙◌, subst, subst₂, arith}
+use Rattle.std.proofs.Common.{◌≡◌, inl, inr, ℕ, suc, ◌<◌, ◌≤◌, Bool, true, false, List, [], ◌∷◌, ◌++◌, length, Option, Some, None, refl, sym, ap, ◌∙◌, subst, subst₂, arith}
 use Rattle.std.specs.List.{All}
 use Rattle.std.proofs.lemmas.List.Elements.{All-nil, All-cons, All-tail}
 use Rattle.model_accesses.specs.declared.request.Act.{Act}
 use Rattle.model_accesses.specs.declared.request.Act.TheVariants.{Spawn, Sync, Call, Return}
 use Rattle.model_strands.specs.declared.spawned.Spawned.{Spawned}
-use Rattle.model_strands.specs.Address.{Word, next, Address}
+use Rattle.model_strands.specs.Address.{next, Address}
 use Rattle.law_addresses.specs.Address.{IsPrefix}
 use Rattle.law_addresses.proofs.Blocks.{prefix-transitive}
 use Rattle.model_strands.specs.History.{Event, split, same, joined, waits, call, resumed, ended, ended_joined, finished, History}
 use Rattle.model_strands.specs.Strands.{over, status, unused}
 use Rattle.model_strands.specs.Blocks.{Stack, block, stack}
-use Rattle.model_strands.specs.Legal.{Legal, Allowed, open_split, next_split, then, function_call, called_return}
+use Rattle.model_strands.specs.Legal.{Legal, Allowed, next_split, then, function_call, called_return}
 use Rattle.model_strands.specs.Addresses.{address}
 use Rattle.law_strands.proofs.Updates.{updated_off, updated_case}
 use Rattle.law_strands.proofs.Words.{not_prefix_shorter, prefix_of_longer, prefix_siblings, ◌▹◌}
@@ -31,12 +31,12 @@ use Rattle.model_histories.specs.declared.answer.Answer.TheVariants.{Split, Same
 use Rattle.model_histories.specs.declared.answer.Entry.{Entry}
 use Rattle.model_histories.specs.Entries.{Entries, event_between, event_of, with_event, control_part}
 use Rattle.race_pairs.specs.Frames.{behind, with_frame, frames}
-use Rattle.race_pairs.specs.Makers.{HasNumber, IsSpawn}
+use Rattle.race_pairs.specs.Makers.{IsSpawn}
 use Rattle.race_pairs.proofs.Framed.{split_goes_on, split_old, unused_with, unused_before}
 use Rattle.race_pairs.proofs.Made.{legal_rest}
 use Rattle.race_pairs.proofs.Climbing.{number_within}
 use Rattle.race_pairs.proofs.BlockJoins.{TurnsOff, inside}
-use Rattle.race_pairs.proofs.Ways.{Home, IsLow, IsBy, Step, Way, at_home, away, way_with, stack_next, stack_goes_on}
+use Rattle.race_pairs.proofs.Ways.{Home, IsLow, IsBy, Step, Way, at_home, way_with, stack_next, stack_goes_on}
 
 -- One event more.
 

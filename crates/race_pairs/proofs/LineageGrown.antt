@@ -15,7 +15,7 @@ use Rattle.race_pairs.specs.declared.kept.Strand.{Strand}
 use Rattle.race_pairs.specs.Makers.{maker}
 use Rattle.race_pairs.specs.Frames.{frames}
 use Rattle.race_pairs.specs.Openers.{opener_of, openers, AreOpeners}
-use Rattle.race_pairs.specs.Lineages.{Encloses, IsNumberAt, Begins, Stands, Stood, begun, turned, HasStood, AreKept}
+use Rattle.race_pairs.specs.Lineages.{Beginning, Encloses, IsNumberAt, Begins, Stands, Stood, begun, turned, HasStood, AreKept}
 use Rattle.race_pairs.proofs.Places.{at_more, at_end, place_reaches, encloses_more, begins_more}
 use Rattle.race_pairs.proofs.Framed.{none_before}
 
@@ -76,30 +76,30 @@ none_still : (e : Entry) (es : Entries) (x made : ℕ) → made ≤ suc (length 
 none_still e es x made low none later earlier is short =
     let b = before e es later earlier is (omega arith) in none b.later_ones earlier b.whole short
 
-stood_still : (F G : List Frame) (T U : List Turn) (e : Entry) (es : Entries) (x made first place until : ℕ) → Stood F T es x made first place until →
-    until ≤ suc (length es) → Stood (F ++ G) (T ++ U) (e ∷ es) x made first place until
-stood_still F G T U e es x made first place until (begun lt stands none) low =
-    begun lt (stands_still F G e es x made until first stands low) (none_still e es x made (omega arith) none)
-stood_still F G T U e es x made first place until (turned {turn = turn} here back earlier stands rest) low =
-    turned (at_more T U place turn here) back earlier (stands_still F G e es x turn.number until turn.frame stands low)
-    (stood_still F G T U e es x made first turn.before turn.number rest (omega arith))
+stood_still : (F G : List Frame) (T U : List Turn) (e : Entry) (es : Entries) (b : Beginning) (place until : ℕ) → Stood F T es b place until →
+    until ≤ suc (length es) → Stood (F ++ G) (T ++ U) (e ∷ es) b place until
+stood_still F G T U e es b place until (begun lt stands none) low =
+    begun lt (stands_still F G e es b.strand b.made until b.first stands low) (none_still e es b.strand b.made (omega arith) none)
+stood_still F G T U e es b place until (turned {turn = turn} here back earlier stands rest) low =
+    turned (at_more T U place turn here) back earlier (stands_still F G e es b.strand turn.number until turn.frame stands low)
+    (stood_still F G T U e es b turn.before turn.number rest (omega arith))
 
-stood_on : (F G : List Frame) (T U : List Turn) (e : Entry) (es : Entries) (x made first place until : ℕ) → Stood F T es x made first place until →
-    until ≡ suc (length es) → frames (e ∷ es) x ≡ frames es x → Stood (F ++ G) (T ++ U) (e ∷ es) x made first place (suc until)
-stood_on F G T U e es x made first place until (begun lt stands none) is same_frames =
+stood_on : (F G : List Frame) (T U : List Turn) (e : Entry) (es : Entries) (b : Beginning) (place until : ℕ) → Stood F T es b place until →
+    until ≡ suc (length es) → frames (e ∷ es) b.strand ≡ frames es b.strand → Stood (F ++ G) (T ++ U) (e ∷ es) b place (suc until)
+stood_on F G T U e es b place until (begun lt stands none) is same_frames =
     begun (omega arith)
-    (subst (λ (u : ℕ). Stands (F ++ G) (e ∷ es) x made (suc u) first) (sym is)
-    (stands_on F G e es x made first (subst (λ (u : ℕ). Stands F es x made u first) is stands) (omega (arith, lt, is)) same_frames))
-    (none_still e es x made (omega (arith, lt, is)) none)
-stood_on F G T U e es x made first place until (turned {turn = turn} here back earlier stands rest) is same_frames =
+    (subst (λ (u : ℕ). Stands (F ++ G) (e ∷ es) b.strand b.made (suc u) b.first) (sym is)
+    (stands_on F G e es b.strand b.made b.first (subst (λ (u : ℕ). Stands F es b.strand b.made u b.first) is stands) (omega (arith, lt, is)) same_frames))
+    (none_still e es b.strand b.made (omega (arith, lt, is)) none)
+stood_on F G T U e es b place until (turned {turn = turn} here back earlier stands rest) is same_frames =
     turned (at_more T U place turn here) back (omega arith)
-    (subst (λ (u : ℕ). Stands (F ++ G) (e ∷ es) x turn.number (suc u) turn.frame) (sym is)
-    (stands_on F G e es x turn.number turn.frame (subst (λ (u : ℕ). Stands F es x turn.number u turn.frame) is stands) (omega (arith, earlier, is)) same_frames))
-    (stood_still F G T U e es x made first turn.before turn.number rest (omega (arith, earlier, is)))
+    (subst (λ (u : ℕ). Stands (F ++ G) (e ∷ es) b.strand turn.number (suc u) turn.frame) (sym is)
+    (stands_on F G e es b.strand turn.number turn.frame (subst (λ (u : ℕ). Stands F es b.strand turn.number u turn.frame) is stands) (omega (arith, earlier, is)) same_frames))
+    (stood_still F G T U e es b turn.before turn.number rest (omega (arith, earlier, is)))
 
-stood_within : (F : List Frame) (T : List Turn) (es : Entries) (x made first place until : ℕ) → Stood F T es x made first place until → place ≤ length T
-stood_within F T es x made first place until (begun lt stands none) = omega arith
-stood_within F T es x made first place until (turned {turn = turn} here back earlier stands rest) = (place_reaches T place turn here).1
+stood_within : (F : List Frame) (T : List Turn) (es : Entries) (b : Beginning) (place until : ℕ) → Stood F T es b place until → place ≤ length T
+stood_within F T es b place until (begun lt stands none) = omega arith
+stood_within F T es b place until (turned {turn = turn} here back earlier stands rest) = (place_reaches T place turn here).1
 
 -- the strand did nothing
 pub has_stood_on : (F G : List Frame) (T U : List Turn) (e : Entry) (es : Entries) (x : ℕ) (it : Strand) → HasStood F T es x it →
@@ -107,8 +107,8 @@ pub has_stood_on : (F G : List Frame) (T U : List Turn) (e : Entry) (es : Entrie
 has_stood_on F G T U e es x it h same_maker same_frames = record {
   first = h.first;
   begins = begins_more F G x it.maker h.first h.begins;
-  stood = subst (λ (m : ℕ). Stood (F ++ G) (T ++ U) (e ∷ es) x m h.first it.turn (suc (suc (length es)))) (sym same_maker)
-      (stood_on F G T U e es x (maker es x) h.first it.turn (suc (length es)) h.stood refl same_frames);
+  stood = subst (λ (m : ℕ). Stood (F ++ G) (T ++ U) (e ∷ es) (record { strand = x; made = m; first = h.first }) it.turn (suc (suc (length es)))) (sym same_maker)
+      (stood_on F G T U e es (record { strand = x; made = maker es x; first = h.first }) it.turn (suc (length es)) h.stood refl same_frames);
 }
 
 -- it turned
@@ -121,10 +121,10 @@ has_turned F G T e es x place it h same_maker encloses =
     record {
       first = h.first;
       begins = begins_more F G x it.maker h.first h.begins;
-      stood = subst (λ (m : ℕ). Stood (F ++ G) (T ++ turn ∷ []) (e ∷ es) x m h.first (suc (length T)) (suc (suc (length es)))) (sym same_maker)
-          (turned (at_end T turn) (omega (arith, stood_within F T es x (maker es x) h.first it.turn (suc (length es)) h.stood)) (omega arith)
+      stood = subst (λ (m : ℕ). Stood (F ++ G) (T ++ turn ∷ []) (e ∷ es) (record { strand = x; made = m; first = h.first }) (suc (length T)) (suc (suc (length es)))) (sym same_maker)
+          (turned (at_end T turn) (omega (arith, stood_within F T es (record { strand = x; made = maker es x; first = h.first }) it.turn (suc (length es)) h.stood)) (omega arith)
           (stands_new (F ++ G) e es x place encloses)
-          (stood_still F G T (turn ∷ []) e es x (maker es x) h.first it.turn (suc (length es)) h.stood (omega arith)));
+          (stood_still F G T (turn ∷ []) e es (record { strand = x; made = maker es x; first = h.first }) it.turn (suc (length es)) h.stood (omega arith)));
     }
 
 -- it was made
@@ -134,7 +134,7 @@ pub has_begun : (F : List Frame) (T : List Turn) (e : Entry) (es : Entries) (x p
 has_begun F T e es x place first l beyond made begins encloses = record {
   first = first;
   begins = begins;
-  stood = subst (λ (m : ℕ). Stood F T (e ∷ es) x m first 0 (suc (suc (length es)))) (sym made)
+  stood = subst (λ (m : ℕ). Stood F T (e ∷ es) (record { strand = x; made = m; first = first }) 0 (suc (suc (length es)))) (sym made)
       (begun (omega arith) (stands_new F e es x first encloses)
       (λ later earlier is short. (let b = before e es later earlier is (omega arith) in
       none_before b.later_ones earlier (subst (λ (ys : Entries). Legal (control_part ys)) (sym b.whole) l) x

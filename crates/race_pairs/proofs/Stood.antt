@@ -7,41 +7,39 @@ use Rattle.race_pairs.specs.declared.kept.Turn.{Turn}
 use Rattle.race_pairs.specs.declared.kept.Strand.{Strand}
 use Rattle.race_pairs.specs.Makers.{maker}
 use Rattle.race_pairs.specs.Frames.{frames}
-use Rattle.race_pairs.specs.Lineages.{Encloses, outermost, IsNumberAt, Begins, Stands, Stood, begun, turned, HasStood, AreKept}
-use Rattle.race_pairs.proofs.Places.{place_within, item_at, at_index}
+use Rattle.race_pairs.specs.Lineages.{Beginning, Encloses, outermost, IsNumberAt, Begins, Stands, Stood, begun, turned, HasStood, AreKept}
+use Rattle.race_pairs.proofs.Places.{no_strand, place_within, item_at, at_index}
 use Rattle.race_pairs.proofs.Framed.{none_before}
 
--- one turn back
-pub record Back (opened : List Frame) (turns : List Turn) (entries : Entries) (strand made first place until : ℕ) (turn : Turn) : Type 0 where
-  pub within : place - 1 < length turns
-  pub back : turn.before < place
-  pub earlier : turn.number < until
-  pub stands : Stands opened entries strand turn.number until turn.frame
-  pub rest : Stood opened turns entries strand made first turn.before turn.number
+module _ (opened : List Frame) (turns : List Turn) (entries : Entries) (b : Beginning) where
+  -- one turn back
+  pub record Back (place until : ℕ) (turn : Turn) : Type 0 where
+    pub within : place - 1 < length turns
+    pub back : turn.before < place
+    pub earlier : turn.number < until
+    pub stands : Stands opened entries b.strand turn.number until turn.frame
+    pub rest : Stood opened turns entries b turn.before turn.number
 
-pub turn_back : (opened : List Frame) (turns : List Turn) (entries : Entries) (strand made first place until : ℕ) →
-    Stood opened turns entries strand made first place until → (place ≡ 0 → ⊥) → (d : Turn) →
-    Back opened turns entries strand made first place until (get_or turns (place - 1) d)
-turn_back opened turns entries strand made first place until (begun lt stands none) some d = absurd (some refl)
-turn_back opened turns entries strand made first place until (turned {turn = turn} here back earlier stands rest) some d =
-    subst (Back opened turns entries strand made first place until) (sym (item_at turns place turn d here)) (record {
-      within = place_within turns place turn here;
-      back = back;
-      earlier = earlier;
-      stands = stands;
-      rest = rest;
-    })
+  pub turn_back : (place until : ℕ) → Stood opened turns entries b place until → (place ≡ 0 → ⊥) → (d : Turn) → Back place until (get_or turns (place - 1) d)
+  turn_back place until (begun lt stands none) some d = absurd (some refl)
+  turn_back place until (turned {turn = turn} here back earlier stands rest) some d =
+      subst (Back place until) (sym (item_at turns place turn d here)) (record {
+        within = place_within turns place turn here;
+        back = back;
+        earlier = earlier;
+        stands = stands;
+        rest = rest;
+      })
 
--- before all turns
-pub record First (opened : List Frame) (entries : Entries) (strand made first until : ℕ) : Type 0 where
-  pub earlier : made < until
-  pub stands : Stands opened entries strand made until first
-  pub none : (later earlier : Entries) → later ++ earlier ≡ entries → length earlier < made → frames earlier strand ≡ []
+  -- before all turns
+  pub record First (until : ℕ) : Type 0 where
+    pub earlier : b.made < until
+    pub stands : Stands opened entries b.strand b.made until b.first
+    pub none : (later earlier : Entries) → later ++ earlier ≡ entries → length earlier < b.made → frames earlier b.strand ≡ []
 
-pub turns_over : (opened : List Frame) (turns : List Turn) (entries : Entries) (strand made first place until : ℕ) →
-    Stood opened turns entries strand made first place until → place ≡ 0 → First opened entries strand made first until
-turns_over opened turns entries strand made first place until (begun lt stands none) over = record { earlier = lt; stands = stands; none = none }
-turns_over opened turns entries strand made first place until (turned {turn = turn} here back earlier stands rest) over = absurd (omega (arith, back, over))
+  pub turns_over : (place until : ℕ) → Stood opened turns entries b place until → place ≡ 0 → First until
+  turns_over place until (begun lt stands none) over = record { earlier = lt; stands = stands; none = none }
+  turns_over place until (turned {turn = turn} here back earlier stands rest) over = absurd (omega (arith, back, over))
 
 -- what is known of a strand in a list
 pub strand_stood : (opened : List Frame) (turns : List Turn) (strands : List Strand) (entries : Entries) → AreKept opened turns strands entries →
@@ -59,7 +57,7 @@ pub now_first : (opened : List Frame) (turns : List Turn) (strands : List Strand
     ((first : ℕ) → Begins opened strand (get_or strands strand d).maker first → place ≡ first) → Encloses opened place (frames entries strand)
 now_first opened turns strands entries kept strand known d none place is =
     let stood = strand_stood opened turns strands entries kept strand known d in
-    let at_first = turns_over opened turns entries strand (maker entries strand) stood.first (get_or strands strand d).turn (suc (length entries)) stood.stood none in
+    let at_first = turns_over opened turns entries (record { strand = strand; made = maker entries strand; first = stood.first }) (get_or strands strand d).turn (suc (length entries)) stood.stood none in
     subst (λ (p : ℕ). Encloses opened p (frames entries strand)) (sym (is stood.first stood.begins))
     (at_first.stands [] entries refl (omega (arith, at_first.earlier)) (omega arith))
 
@@ -69,23 +67,32 @@ pub now_turn : (opened : List Frame) (turns : List Turn) (strands : List Strand)
     Encloses opened (get_or turns ((get_or strands strand d).turn - 1) e).frame (frames entries strand)
 now_turn opened turns strands entries kept strand known d e some =
     let stood = strand_stood opened turns strands entries kept strand known d in
-    let at_last = turn_back opened turns entries strand (maker entries strand) stood.first (get_or strands strand d).turn (suc (length entries)) stood.stood some e in
+    let at_last = turn_back opened turns entries (record { strand = strand; made = maker entries strand; first = stood.first }) (get_or strands strand d).turn (suc (length entries)) stood.stood some e in
     (at_last.within, at_last.stands [] entries refl (omega (arith, at_last.earlier)) (omega arith))
 
 -- Where it stood before an entry.
 
--- the turns that are left were all it had before the entry with this number
-pub record Reached (opened : List Frame) (turns : List Turn) (entries : Entries) (strand number place_made at : ℕ) : Type 0 where
+-- where a strand stood is sought, before the entry with a number, and its maker has this place
+pub record Sought : Type 0 where
+  pub strand : ℕ
+  pub number : ℕ
+  pub maker : ℕ
+
+abbrev pub sought_of : ℕ → ℕ → List Strand → Sought
+sought_of strand number strands = record { strand = strand; number = number; maker = (get_or strands strand no_strand).maker }
+
+-- the turns that are left were all it had before that entry
+pub record Reached (opened : List Frame) (turns : List Turn) (entries : Entries) (sought : Sought) (at : ℕ) : Type 0 where
   pub first : ℕ
-  pub begins : Begins opened strand place_made first
-  pub made_is : IsNumberAt opened place_made (maker entries strand)
+  pub begins : Begins opened sought.strand sought.maker first
+  pub made_is : IsNumberAt opened sought.maker (maker entries sought.strand)
   pub until : ℕ
-  pub stood : Stood opened turns entries strand (maker entries strand) first at until
-  pub short : (later earlier : Entries) → later ++ earlier ≡ entries → number ≡ suc (length earlier) → length earlier < until
+  pub stood : Stood opened turns entries (record { strand = sought.strand; made = maker entries sought.strand; first = first }) at until
+  pub short : (later earlier : Entries) → later ++ earlier ≡ entries → sought.number ≡ suc (length earlier) → length earlier < until
 
 pub reached_first : (opened : List Frame) (turns : List Turn) (strands : List Strand) (entries : Entries) → AreKept opened turns strands entries →
     (strand : ℕ) → strand < length strands → (d : Strand) (number : ℕ) →
-    Reached opened turns entries strand number (get_or strands strand d).maker (get_or strands strand d).turn
+    Reached opened turns entries (record { strand = strand; number = number; maker = (get_or strands strand d).maker }) (get_or strands strand d).turn
 reached_first opened turns strands entries kept strand known d number =
     let stood = strand_stood opened turns strands entries kept strand known d in
     record {
@@ -104,11 +111,11 @@ reached_first opened turns strands entries kept strand known d number =
         at_most [] earlier = omega arith
         at_most (x ∷ later) earlier = omega (arith, at_most later earlier)
 
-pub reached_back : (opened : List Frame) (turns : List Turn) (entries : Entries) (strand number place_made at : ℕ) →
-    Reached opened turns entries strand number place_made at → (at ≡ 0 → ⊥) → (d : Turn) → number ≤ (get_or turns (at - 1) d).number →
-    Reached opened turns entries strand number place_made (get_or turns (at - 1) d).before
-reached_back opened turns entries strand number place_made at reached some d late =
-    let back = turn_back opened turns entries strand (maker entries strand) reached.first at reached.until reached.stood some d in
+pub reached_back : (opened : List Frame) (turns : List Turn) (entries : Entries) (sought : Sought) (at : ℕ) →
+    Reached opened turns entries sought at → (at ≡ 0 → ⊥) → (d : Turn) → sought.number ≤ (get_or turns (at - 1) d).number →
+    Reached opened turns entries sought (get_or turns (at - 1) d).before
+reached_back opened turns entries sought at reached some d late =
+    let back = turn_back opened turns entries (record { strand = sought.strand; made = maker entries sought.strand; first = reached.first }) at reached.until reached.stood some d in
     record {
       first = reached.first;
       begins = reached.begins;
@@ -118,39 +125,39 @@ reached_back opened turns entries strand number place_made at reached some d lat
       short = λ later earlier is n. omega (arith, late, n);
     }
 
-pub reached_turn : (opened : List Frame) (turns : List Turn) (entries : Entries) (strand number place_made at : ℕ) →
-    Reached opened turns entries strand number place_made at → (at ≡ 0 → ⊥) → (d : Turn) →
+pub reached_turn : (opened : List Frame) (turns : List Turn) (entries : Entries) (sought : Sought) (at : ℕ) →
+    Reached opened turns entries sought at → (at ≡ 0 → ⊥) → (d : Turn) →
     (at - 1 < length turns) × ((get_or turns (at - 1) d).before < at)
-reached_turn opened turns entries strand number place_made at reached some d =
-    let back = turn_back opened turns entries strand (maker entries strand) reached.first at reached.until reached.stood some d in
+reached_turn opened turns entries sought at reached some d =
+    let back = turn_back opened turns entries (record { strand = sought.strand; made = maker entries sought.strand; first = reached.first }) at reached.until reached.stood some d in
     (back.within, back.back)
 
-pub reached_place : (opened : List Frame) (turns : List Turn) (entries : Entries) (strand number place_made at : ℕ) →
-    Reached opened turns entries strand number place_made at → (at ≡ 0 → ⊥) → (d : Turn) → (get_or turns (at - 1) d).number < number →
-    (later earlier : Entries) → later ++ earlier ≡ entries → number ≡ suc (length earlier) →
-    Encloses opened (get_or turns (at - 1) d).frame (frames earlier strand)
-reached_place opened turns entries strand number place_made at reached some d lower later earlier is n =
-    let back = turn_back opened turns entries strand (maker entries strand) reached.first at reached.until reached.stood some d in
+pub reached_place : (opened : List Frame) (turns : List Turn) (entries : Entries) (sought : Sought) (at : ℕ) →
+    Reached opened turns entries sought at → (at ≡ 0 → ⊥) → (d : Turn) → (get_or turns (at - 1) d).number < sought.number →
+    (later earlier : Entries) → later ++ earlier ≡ entries → sought.number ≡ suc (length earlier) →
+    Encloses opened (get_or turns (at - 1) d).frame (frames earlier sought.strand)
+reached_place opened turns entries sought at reached some d lower later earlier is n =
+    let back = turn_back opened turns entries (record { strand = sought.strand; made = maker entries sought.strand; first = reached.first }) at reached.until reached.stood some d in
     back.stands later earlier is (omega (arith, lower, n)) (reached.short later earlier is n)
 
-pub reached_begin : (opened : List Frame) (turns : List Turn) (entries : Entries) (strand number place_made at : ℕ) →
-    Reached opened turns entries strand number place_made at → at ≡ 0 → (place : ℕ) →
-    ((first made : ℕ) → Begins opened strand place_made first → IsNumberAt opened place_made made → made < number → place ≡ first) →
-    ((made : ℕ) → IsNumberAt opened place_made made → number ≤ made → place ≡ 0) →
-    (later earlier : Entries) → later ++ earlier ≡ entries → number ≡ suc (length earlier) → Encloses opened place (frames earlier strand)
-reached_begin opened turns entries strand number place_made at reached over place is_first is_none later earlier is n =
-    go (below_or_beyond (maker entries strand) number)
+pub reached_begin : (opened : List Frame) (turns : List Turn) (entries : Entries) (sought : Sought) (at : ℕ) →
+    Reached opened turns entries sought at → at ≡ 0 → (place : ℕ) →
+    ((first made : ℕ) → Begins opened sought.strand sought.maker first → IsNumberAt opened sought.maker made → made < sought.number → place ≡ first) →
+    ((made : ℕ) → IsNumberAt opened sought.maker made → sought.number ≤ made → place ≡ 0) →
+    (later earlier : Entries) → later ++ earlier ≡ entries → sought.number ≡ suc (length earlier) → Encloses opened place (frames earlier sought.strand)
+reached_begin opened turns entries sought at reached over place is_first is_none later earlier is n =
+    go (below_or_beyond (maker entries sought.strand) sought.number)
   where
-    at_first : First opened entries strand (maker entries strand) reached.first reached.until
-    at_first = turns_over opened turns entries strand (maker entries strand) reached.first at reached.until reached.stood over
+    at_first : First opened turns entries (record { strand = sought.strand; made = maker entries sought.strand; first = reached.first }) reached.until
+    at_first = turns_over opened turns entries (record { strand = sought.strand; made = maker entries sought.strand; first = reached.first }) at reached.until reached.stood over
 
-    go : (maker entries strand < number) ⊎ (number ≤ maker entries strand) → Encloses opened place (frames earlier strand)
+    go : (maker entries sought.strand < sought.number) ⊎ (sought.number ≤ maker entries sought.strand) → Encloses opened place (frames earlier sought.strand)
     go (inl lower) =
-        subst (λ (p : ℕ). Encloses opened p (frames earlier strand)) (sym (is_first reached.first (maker entries strand) reached.begins reached.made_is lower))
+        subst (λ (p : ℕ). Encloses opened p (frames earlier sought.strand)) (sym (is_first reached.first (maker entries sought.strand) reached.begins reached.made_is lower))
         (at_first.stands later earlier is (omega (arith, lower, n)) (reached.short later earlier is n))
     go (inr beyond) =
-        let no_frames : frames earlier strand ≡ [] = at_first.none later earlier is (omega (arith, beyond, n)) in
-        subst (λ (p : ℕ). Encloses opened p (frames earlier strand)) (sym (is_none (maker entries strand) reached.made_is beyond))
+        let no_frames : frames earlier sought.strand ≡ [] = at_first.none later earlier is (omega (arith, beyond, n)) in
+        subst (λ (p : ℕ). Encloses opened p (frames earlier sought.strand)) (sym (is_none (maker entries sought.strand) reached.made_is beyond))
         (subst (Encloses opened 0) (sym no_frames) outermost)
 
 -- a strand that is in no list had no frames

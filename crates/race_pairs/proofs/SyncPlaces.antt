@@ -4,11 +4,11 @@
 use Rattle.std.proofs.Common.{◌≡◌, ◌⊎◌, inl, inr, ℕ, zero, suc, ◌+◌, ◌-◌, ◌<◌, ◌≤◌, List, [], ◌∷◌, ◌++◌, length, get_or, take, drop, reverse, Option, Some, None, refl, sym, ap, ◌∙◌, subst, subst₂, append-nil, append_assoc, arith}
 use Rattle.std.specs.Prelude.{◌↔◌, MatchOption, IfSome, IsSome, unwrap_or}
 use Rattle.std.specs.Option.{option_map}
-use Rattle.std.specs.List.{All, Contains}
+use Rattle.std.specs.List.{Contains}
 use Rattle.std.proofs.lemmas.List.{length-append, length-reverse, length-take-le, reverse-append, take-append-drop}
 use Rattle.std.proofs.lemmas.List.Elements.{All-contains}
 use Rattle.std.proofs.lemmas.Option.{slice_get_within, get_or_from_slice_get}
-use Rattle.model_strands.specs.History.{Event, History}
+use Rattle.model_strands.specs.History.{History}
 use Rattle.law_addresses.specs.Address.{IsPrefix}
 use Rattle.law_addresses.proofs.Blocks.{prefix-reaches}
 use Rattle.model_strands.specs.Strands.{over, status, Running, Begun, unused}
@@ -20,8 +20,6 @@ use Rattle.model_strands.specs.Addresses.{address}
 use Rattle.law_strands.proofs.Law.{precedes_reach}
 use Rattle.law_strands.proofs.Places.{below_or_beyond, running_below}
 use Rattle.law_strands.proofs.Range.{ranges}
-use Rattle.law_strands.proofs.Words.{◌▹◌}
-use Rattle.model_strands.specs.Address.{next, Address}
 use Rattle.model_histories.specs.declared.answer.Entry.{Entry}
 use Rattle.model_histories.specs.Entries.{Entries, event_of, control_part}
 use Rattle.model_histories.specs.Shapes.{Shape}
@@ -41,7 +39,7 @@ use Rattle.race_pairs.proofs.Asked.{asked_begun}
 use Rattle.race_pairs.proofs.Numbers.{legal_before, so_far}
 use Rattle.race_pairs.proofs.Forking.{of_spawn, next_begins}
 use Rattle.race_pairs.proofs.BlockJoins.{address_lasts, sync_orders}
-use Rattle.race_pairs.proofs.Ways.{Home, Way, at_home, away, Deep, IsLow, least_deep}
+use Rattle.race_pairs.proofs.Ways.{Way, at_home, away, least_deep}
 use Rattle.race_pairs.proofs.Homes.{Left, Known, known, over_stands, none_before_spawn}
 
 -- Entries by their numbers.

@@ -1,21 +1,20 @@
 -- Where the strands below the next of a spawn stand: in the spawn's block, or in functions that were called or spawned there, and deeper.
 -- g: the block; h: a history; f: the frames of strands; x, y: strands; k: the number of an event; o: that of the entry that led out of the
 -- block; in a split, s is the spawner, c its child, n its next and j the join
-use Rattle.std.proofs.Common.{◌≡◌, ◌≢◌, ◌⊎◌, inl, inr, ℕ, suc, ◌<◌, ◌≤◌, Bool, true, false, List, [], ◌∷◌, ◌++◌, length, Option, Some, None, refl, sym, ap, ◌∙◌, subst, subst₂, arith}
-use Rattle.std.specs.List.{All, Contains}
+use Rattle.std.proofs.Common.{◌≡◌, ◌≢◌, ◌⊎◌, inl, inr, ℕ, suc, ◌<◌, ◌≤◌, Bool, true, false, List, [], ◌∷◌, length, Option, Some, None, refl, sym, ap, ◌∙◌, subst, subst₂, arith}
+use Rattle.std.specs.List.{All}
 use Rattle.std.proofs.lemmas.List.Elements.{All-cons}
 use Rattle.std.proofs.lemmas.Bool.{false≢true}
 use Rattle.model_strands.specs.Address.{Word, child, next, join, Address}
 use Rattle.law_addresses.specs.Address.{IsPrefix}
 use Rattle.law_addresses.proofs.Extremes.{contains-head, contains-tail}
-use Rattle.model_strands.specs.Updated.{updated}
 use Rattle.model_strands.specs.History.{Event, split, same, joined, waits, call, resumed, ended, ended_joined, finished, History}
 use Rattle.model_strands.specs.Strands.{unused}
-use Rattle.model_strands.specs.Blocks.{Stack, root, spawned, called, block, caller, stack, IsSynced}
-use Rattle.model_strands.specs.Legal.{Legal, Allowed, open_split, next_split, then, function_call, called_return}
+use Rattle.model_strands.specs.Blocks.{Stack, spawned, called, block, caller, stack, IsSynced}
+use Rattle.model_strands.specs.Legal.{Legal, Allowed, open_split, next_split, then, called_return}
 use Rattle.model_strands.specs.Addresses.{address}
 use Rattle.law_strands.specs.Acts.{strand_of}
-use Rattle.law_strands.proofs.Updates.{same_or_not, updated_at, updated_off, updated_case}
+use Rattle.law_strands.proofs.Updates.{same_or_not, updated_at, updated_off}
 use Rattle.law_strands.proofs.Words.{prefix_refl, prefix_longer, ◌▹◌}
 use Rattle.law_strands.proofs.Range.{ranges}
 use Rattle.law_strands.proofs.Holders.{Splitting, splitting, holders}

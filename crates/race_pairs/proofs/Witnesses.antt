@@ -24,7 +24,7 @@ use Rattle.model_histories.specs.Shapes.{Shape}
 use Rattle.model_histories.specs.Legal.{Belongs}
 use Rattle.model_races.specs.declared.access.CellAccess.{CellAccess}
 use Rattle.model_races.specs.Accesses.{in_cell, cell_access, is_granted, access_at as granted_at, granted}
-use Rattle.model_races.specs.Reducers.{steps_of, read_at, granted_reads}
+use Rattle.model_races.specs.Reducers.{read_at, granted_reads}
 use Rattle.model_races.specs.Verdicts.{IsRightVerdict}
 use Rattle.model_races.specs.ViewReads.{IsTrueReadWitness}
 use Rattle.model_races.specs.ReducerVerdicts.{IsRightFor, reads_before}

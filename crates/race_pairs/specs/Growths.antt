@@ -27,11 +27,18 @@ IsFrameMore opened turns strands opener longer =
     (outer : ℕ) × (longer ≡ opened ++ record { opener = opener; outer = outer } ∷ []) ×
     ((entries : Entries) → AreKept opened turns strands entries → Encloses opened outer (frames entries opener.strand))
 
+-- a strand goes into the frame at a place by the entry with a number
+pub record Move : Type 0 where
+  pub strand : ℕ
+  pub number : ℕ
+  pub frame : ℕ
+
 -- one turn more, which is the last of its strand
-abbrev pub IsTurnMore : List Turn → List Strand → ℕ → ℕ → ℕ → List Turn → List Strand → Type 0
-IsTurnMore turns strands strand number frame longer changed =
-    (it : Strand) × IsAt strands (suc strand) it × (longer ≡ turns ++ record { number = number; frame = frame; before = it.turn } ∷ []) ×
-    (changed ≡ set strands strand (record { maker = it.maker; turn = suc (length turns) }))
+abbrev pub IsTurnMore : List Turn → List Strand → Move → List Turn → List Strand → Type 0
+IsTurnMore turns strands move longer changed =
+    (it : Strand) × IsAt strands (suc move.strand) it ×
+    (longer ≡ turns ++ record { number = move.number; frame = move.frame; before = it.turn } ∷ []) ×
+    (changed ≡ set strands move.strand (record { maker = it.maker; turn = suc (length turns) }))
 
 -- the strands of the spawn of the frame at a place: three where it opens a block, else two
 abbrev pub made_by : ℕ → Strand

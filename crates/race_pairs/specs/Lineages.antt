@@ -56,15 +56,21 @@ abbrev pub Stands : List Frame → Entries → ℕ → ℕ → ℕ → ℕ → T
 Stands opened entries strand since until place =
     (later earlier : Entries) → later ++ earlier ≡ entries → since ≤ length earlier → length earlier < until → Encloses opened place (frames earlier strand)
 
--- Before the entry with a number the strand has had the turns that lead back from a place. It was made by the entry with the number of its
--- maker, and began in a first frame; before that it has no frames.
-pub data Stood (opened : List Frame) (turns : List Turn) (entries : Entries) (strand made first : ℕ) : ℕ → ℕ → Type 0 where
-  begun : {until : ℕ} → made < until → Stands opened entries strand made until first →
-      ((later earlier : Entries) → later ++ earlier ≡ entries → length earlier < made → frames earlier strand ≡ []) →
-      Stood opened turns entries strand made first 0 until
+-- how a strand began: made by the entry with a number, in the frame at a place
+pub record Beginning : Type 0 where
+  pub strand : ℕ
+  pub made : ℕ
+  pub first : ℕ
+
+-- Before the entry with a number the strand has had the turns that lead back from a place to its first frame; before it was made it has no
+-- frames.
+pub data Stood (opened : List Frame) (turns : List Turn) (entries : Entries) (began : Beginning) : ℕ → ℕ → Type 0 where
+  begun : {until : ℕ} → began.made < until → Stands opened entries began.strand began.made until began.first →
+      ((later earlier : Entries) → later ++ earlier ≡ entries → length earlier < began.made → frames earlier began.strand ≡ []) →
+      Stood opened turns entries began 0 until
   turned : {place until : ℕ} {turn : Turn} → IsAt turns place turn → turn.before < place → turn.number < until →
-      Stands opened entries strand turn.number until turn.frame → Stood opened turns entries strand made first turn.before turn.number →
-      Stood opened turns entries strand made first place until
+      Stands opened entries began.strand turn.number until turn.frame → Stood opened turns entries began turn.before turn.number →
+      Stood opened turns entries began place until
 
 -- The frames are those of the entries' openers. By its number, each strand has the place of its maker.
 pub record AreMade (opened : List Frame) (strands : List Strand) (entries : Entries) : Type 0 where
@@ -86,7 +92,7 @@ AreSides opened strands jumps entries strand other =
 pub record HasStood (opened : List Frame) (turns : List Turn) (entries : Entries) (strand : ℕ) (it : Strand) : Type 0 where
   pub first : ℕ
   pub begins : Begins opened strand it.maker first
-  pub stood : Stood opened turns entries strand (maker entries strand) first it.turn (suc (length entries))
+  pub stood : Stood opened turns entries (record { strand = strand; made = maker entries strand; first = first }) it.turn (suc (length entries))
 
 -- this is kept of the entries
 pub record AreKept (opened : List Frame) (turns : List Turn) (strands : List Strand) (entries : Entries) : Type 0 where

@@ -85,7 +85,8 @@ fn add_turn<A: Allocator>(
 ) -> Result<(), AllocError>
     requires strand { strand < length strands.old.items }
     requires few { length turns.old.items < most_entries }
-    ensures { IfOk result (λ _. IsTurnMore turns.old.items strands.old.items strand number frame turns.new.items strands.new.items) }
+    ensures { IfOk result (λ _. IsTurnMore turns.old.items strands.old.items (record { strand = strand; number = number; frame = frame })
+        turns.new.items strands.new.items) }
 {
     let it = strands[strand as usize];
     turns.push(Turn {
