@@ -1,4 +1,4 @@
--- What a sync orders that stands before the first entry behind a spawn.
+-- What a sync orders where the spawner of a race goes on.
 use Rattle.std.specs.Prelude.{◌≡◌, ◌<◌, ℕ, suc, List, ◌∷◌, ◌++◌, length, reverse, Option, IfSome}
 use Rattle.model_strands.specs.History.{Event, History}
 use Rattle.model_strands.specs.Strands.{Running, Begun}

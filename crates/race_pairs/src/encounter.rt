@@ -43,7 +43,8 @@ pub struct Encounter {
     pub witness_chain: Vec<Link>,
     /// The spawn at which the two strands part, where they are parallel.
     pub parting: Option<Parting>,
-    /// Where there is one, the first spawn or call behind it that encloses the access which its next strand reaches, or this access.
+    /// Where there is one, the first spawn or call behind it that encloses the access which its next strand reaches, or this access. A
+    /// sync in its place orders what the child leads to before what comes behind the sync.
     pub onward: Option<usize>,
     /// Of a view-read race a spawn that is outstanding at one of the two and not at the other.
     pub outstanding: Option<OpenSpawn>,

@@ -5,7 +5,8 @@
 //! first refused entry, its witness and how many refusals are of the pair, and no others; of the first ones also the cells or reducers on
 //! which they raced. Two refusals are of one pair exactly where their lines are the same and their strands part at spawns on the same line.
 //! [`group_races`] groups races by that line. [`Encounter`] is of such a pair the spawns and calls that enclose the two accesses, the spawn
-//! at which their strands part, and for a view-read race a spawn that is outstanding at one of them and not at the other.
+//! at which their strands part, where the spawner goes on, and for a view-read race a spawn that is outstanding at one of them and not at the
+//! other. Its contract says that a sync where the spawner goes on orders the two.
 //!
 //! Two strands are logically parallel exactly where they part at a spawn: its child reaches the one, its next the other, and neither
 //! the other way round. A [`Lineage`] grows entry by entry, knows of each strand the spawn that made it, and finds that spawn by climbing
