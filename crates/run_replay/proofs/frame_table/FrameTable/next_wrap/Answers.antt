@@ -18,8 +18,10 @@ slot_wrap-requires g c =
     let found = c.in_ok-place.ensures in
     let slot_is : slice_get slots c.in_ok-place.home ≡ Some c.index.result.now =
     slice_get_read slots (length slots) c.in_ok-place.home c.index.result.now refl found.2 c.index.ensures in
-    record { stands = slot_stands c.args.program.now.functions (shape_in c.args.program.now) c.requires.plays.0 slots c.args.self.now.homes.items
-        c.args.self.now.places.items c.requires.plays.1 c.args.entry c.in_ok-place.place found.0 c.in_ok-place.home found.1 c.index.result.now slot_is }
+    record {
+      stands = slot_stands c.args.program.now.functions (shape_in c.args.program.now) c.requires.plays.0 slots c.args.self.now.homes.items
+          c.args.self.now.places.items c.requires.plays.1 c.args.entry c.in_ok-place.place found.0 c.in_ok-place.home found.1 c.index.result.now slot_is;
+    }
 
 pub returns : goal.returns
 returns g c =

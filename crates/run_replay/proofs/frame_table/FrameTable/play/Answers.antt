@@ -22,8 +22,10 @@ advance_slot-requires g c =
     let slots = c.args.self.now.slots.items in
     let slot_is : slice_get slots c.in-Some.home ≡ Some c.index_mut.result.now =
     slice_get_read slots (length slots) c.in-Some.home c.index_mut.result.now refl c.in-Some.ensures.2 c.index_mut.ensures.value in
-    record { stands = slot_stands c.args.program.now.functions (shape_in c.args.program.now) c.requires.plays.0 slots c.args.self.now.homes.items
-        c.args.self.now.places.items c.requires.plays.1 c.args.entry c.in-Some.place c.in-Some.ensures.0 c.in-Some.home c.in-Some.ensures.1 c.index_mut.result.now slot_is }
+    record {
+      stands = slot_stands c.args.program.now.functions (shape_in c.args.program.now) c.requires.plays.0 slots c.args.self.now.homes.items
+          c.args.self.now.places.items c.requires.plays.1 c.args.entry c.in-Some.place c.in-Some.ensures.0 c.in-Some.home c.in-Some.ensures.1 c.index_mut.result.now slot_is;
+    }
 
 pub returns-in_err-target-clause-strange : goal.returns-in_err-target-clause-strange
 returns-in_err-target-clause-strange g c =
