@@ -9,7 +9,7 @@ use Rattle.race_pairs.specs.declared.lineage.OpenSpawn.{OpenSpawn}
 use Rattle.race_pairs.specs.Refusals.{line_in}
 use Rattle.race_pairs.specs.declared.race.Pair.{Pair}
 use Rattle.race_explanations.specs.Settings.{Origin, in_program, in_trace, Setting}
-use Rattle.race_explanations.specs.Names.{function_at, noted_function, are_in_one_function}
+use Rattle.race_explanations.specs.Names.{function_at, noted_function, are_in_one_function, are_in_one_call}
 use Rattle.race_explanations.specs.Paths.{line_words, shown_line}
 
 -- ---- words
@@ -128,10 +128,10 @@ sync_place setting line onward = (codes "a `sync` in " ++ function_word setting 
 abbrev pub order_words : (is_sure : Bool) → List ℕ
 order_words is_sure = if is_sure then codes " would order them" else codes " may order them"
 
--- The sync orders them for sure only on a line of the function that spawns.
+-- The sync orders them for sure only where it is known to stand in the call that spawns.
 abbrev pub missing_help : Setting → (line onward : ℕ) → (is_sure : Bool) → List ℕ
 missing_help setting line onward is_sure =
-    sync_place setting line onward ++ order_words (is_sure && are_in_one_function setting.origin line onward)
+    sync_place setting line onward ++ order_words (is_sure && are_in_one_call setting.origin line onward)
 
 -- what orders two strands that part at a spawn on one line, behind which the spawner goes on to another
 abbrev pub sync_help : Setting → (line onward : ℕ) → (is_sure : Bool) → List ℕ

@@ -118,7 +118,7 @@ abbrev pub is_within_lead : Option Lead → Bool
 is_within_lead (Some lead) = lead.is_within
 is_within_lead None = false
 
--- The sync that is told of the first one stands in the function that spawns, and orders all at these places.
+-- The sync that is told of the first one is known to stand in the call that spawns, and orders all at these places.
 abbrev pub is_sure_first : List Finding → Option ℕ → (places : List ℕ) → Bool
 is_sure_first findings (Some first) places = is_within_lead (lead_at findings first) && not (leaves_open_place findings first false places)
 is_sure_first findings None places = false

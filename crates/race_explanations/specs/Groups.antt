@@ -7,7 +7,7 @@ use Rattle.race_explanations.specs.declared.case.Course.{Course}
 use Rattle.race_explanations.specs.Settings.{Origin, in_program, in_trace, Setting}
 use Rattle.race_explanations.specs.Cases.{course_of}
 use Rattle.race_explanations.specs.Paths.{line_words}
-use Rattle.race_explanations.specs.Names.{are_in_one_function}
+use Rattle.race_explanations.specs.Names.{are_in_one_call}
 use Rattle.race_explanations.specs.Advice.{function_word, rounds_note, sync_note}
 use Rattle.race_explanations.specs.Messages.{case_text, member_text}
 
@@ -82,9 +82,9 @@ abbrev pub has_round : (found : Bool) → List Course → Bool
 has_round found [] = found
 has_round found (course ∷ courses) = has_round (found || course.is_round) courses
 
--- The sync stands in the function that spawns, and orders them all.
+-- The sync is known to stand in the call that spawns, and orders them all.
 abbrev pub is_sure : Setting → (line : ℕ) → Course → List Course → Bool
-is_sure setting line first courses = are_in_one_function setting.origin line first.line && not (leaves_open first false courses)
+is_sure setting line first courses = are_in_one_call setting.origin line first.line && not (leaves_open first false courses)
 
 abbrev pub is_sure_of : Setting → (line : ℕ) → Option Course → List Course → Bool
 is_sure_of setting line (Some first) courses = is_sure setting line first courses

@@ -4,7 +4,7 @@ use Rattle.race_explanations.specs.declared.case.Course.{Course}
 use Rattle.race_explanations.specs.declared.lead.Lead.{Lead}
 use Rattle.race_explanations.specs.Settings.{Setting}
 use Rattle.race_explanations.specs.Paths.{line_words}
-use Rattle.race_explanations.specs.Names.{are_in_one_function}
+use Rattle.race_explanations.specs.Names.{are_in_one_call}
 use Rattle.race_explanations.specs.Advice.{help_begun, sync_place, rounds_note}
 use Rattle.race_explanations.specs.Groups.{beside_text}
 
@@ -15,7 +15,7 @@ pub record IsLead (setting : Setting) (trace line : ℕ) (course : Course) (lead
   pub beside_is : lead.beside.items ≡ beside_text setting line (Some course)
   pub sync_is : lead.sync.items ≡ help_begun setting ++ sync_place setting line course.line
   pub rounds_is : lead.rounds.items ≡ rounds_note setting
-  pub within_is : lead.is_within ≡ are_in_one_function setting.origin line course.line
+  pub within_is : lead.is_within ≡ are_in_one_call setting.origin line course.line
   pub trace_is : lead.trace ≡ trace
   pub course_is : lead.course ≡ course
 

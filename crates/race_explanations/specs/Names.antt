@@ -1,6 +1,8 @@
 -- Words for what stands in a program and in a run of it.
-use Rattle.std.specs.Prelude.{ℕ, nat_lt, Bool, true, false, List, [], ◌∷◌, codes, take, drop, Option, Some, None, if◌then◌else◌}
+use Rattle.std.specs.Prelude.{ℕ, ◌&&◌, nat_lt, not, Bool, true, false, List, [], ◌∷◌, codes, take, drop, Option, Some, None, is_some, if◌then◌else◌}
+use Rattle.std.specs.Global.{Global}
 use Rattle.std.specs.Str.{bytes_eq}
+use Rattle.trace_notes.specs.declared.notes.Notes.{Notes}
 use Rattle.trace_notes.specs.Places.{PlaceParts}
 use Rattle.trace_notes.specs.Notes.{noted_place}
 use Rattle.model_accesses.specs.Table.{spelling}
@@ -37,6 +39,16 @@ abbrev pub are_in_one_function : Origin → (line other : ℕ) → Bool
 are_in_one_function (in_program file source functions) line other = bytes_eq (function_at functions line) (function_at functions other)
 are_in_one_function (in_trace notes) line other =
     is_one_name (noted_function (noted_place notes line)) (noted_function (noted_place notes other))
+
+-- no note of the trace says where the line is
+abbrev pub is_unnoted : Notes Global → ℕ → Bool
+is_unnoted notes line = not (is_some (noted_place notes line))
+
+-- Two lines are known to stand in one call of a function. The entries of a trace have their calls. The places of its notes need not have
+-- them: where a function calls itself, a line of the callee is named as one of the caller.
+abbrev pub are_in_one_call : Origin → (line other : ℕ) → Bool
+are_in_one_call (in_program file source functions) line other = are_in_one_function (in_program file source functions) line other
+are_in_one_call (in_trace notes) line other = is_unnoted notes line && is_unnoted notes other
 
 -- what an access did, where there is one
 abbrev pub side_word : Option Side → List ℕ

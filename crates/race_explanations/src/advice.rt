@@ -15,7 +15,7 @@ ghost use Rattle.race_explanations.specs.Advice.{help_begun, help_note, sync_hel
 use crate::account::Account;
 use crate::paths::{push_line, push_shown};
 use crate::scene::{Origin, Scene};
-use crate::words::{are_in_one_function, function_in, line_of};
+use crate::words::{are_in_one_call, are_in_one_function, function_in, line_of};
 use race_pairs::{OpenSpawn, Pair, Parting};
 use std::alloc::{AllocError, Global};
 use trace_notes::Place;
@@ -227,7 +227,7 @@ fn push_missing(account: &mut Account, scene: &Scene<'_, '_>, line: u32, onward:
     ensures { Adds account.old (missing_help (setting_of scene.now) line onward is_sure) account.new }
 {
     push_sync_place(account, scene, line, onward);
-    let is_sure = is_sure && are_in_one_function(scene, line, onward);
+    let is_sure = is_sure && are_in_one_call(scene, line, onward);
     account.push_words(order_words(is_sure));
 }
 

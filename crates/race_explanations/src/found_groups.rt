@@ -251,7 +251,7 @@ pub(crate) fn round_place(findings: &[Finding], places: &[usize]) -> Option<usiz
     found
 }
 
-/// Whether the spawner goes on to a line of the function that spawns.
+/// Whether the spawner is known to go on to a line of the call that spawns.
 fn is_within_lead(lead: Option<&Lead>) -> bool
     ensures { result ≡ is_within_lead (option_map (λ lead. lead.now) lead.entry) }
 {
@@ -261,7 +261,7 @@ fn is_within_lead(lead: Option<&Lead>) -> bool
     }
 }
 
-/// Whether the sync that is told of the first one stands in the function that spawns, and orders all at these places.
+/// Whether the sync that is told of the first one is known to stand in the call that spawns, and orders all at these places.
 pub(crate) fn is_sure_first(findings: &[Finding], first: Option<usize>, places: &[usize]) -> bool
     ensures { result ≡ is_sure_first findings.now first places.now }
 {

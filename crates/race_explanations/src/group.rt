@@ -12,7 +12,7 @@ use crate::case::{Case, Course, course_of};
 use crate::message::{push_case, push_member};
 use crate::paths::push_line;
 use crate::scene::{Origin, Scene};
-use crate::words::are_in_one_function;
+use crate::words::are_in_one_call;
 use race_pairs::Group;
 use std::alloc::{AllocError, Global};
 
@@ -197,11 +197,11 @@ fn leaves_open(first: Course, courses: &[Course]) -> bool
     found
 }
 
-/// Whether a sync in the function that spawns, before the line of the first one, orders them all.
+/// Whether a sync before the line of the first one is known to stand in the call that spawns, and orders them all.
 fn is_sure(scene: &Scene<'_, '_>, line: u32, first: Course, courses: &[Course]) -> bool
     ensures { result ≡ is_sure (setting_of scene.now) line first courses.now }
 {
-    are_in_one_function(scene, line, first.line) && !leaves_open(first, courses)
+    are_in_one_call(scene, line, first.line) && !leaves_open(first, courses)
 }
 
 /// The same, where there is a first one.

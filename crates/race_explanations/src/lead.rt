@@ -13,7 +13,7 @@ use crate::case::Course;
 use crate::group::push_beside;
 use crate::paths::push_line;
 use crate::scene::Scene;
-use crate::words::are_in_one_function;
+use crate::words::are_in_one_call;
 use std::alloc::{AllocError, Global};
 
 /// The spawn at which the two strands of a finding part.
@@ -28,7 +28,7 @@ pub struct Lead {
     pub(crate) sync: Vec<u8>,
     /// What is told where the spawner goes on to the line of the spawn.
     pub(crate) rounds: Vec<u8>,
-    /// Whether the spawner goes on to a line of the function that spawns.
+    /// Whether the spawner is known to go on to a line of the call that spawns.
     pub(crate) is_within: bool,
     /// The number of its trace.
     pub(crate) trace: usize,
@@ -120,7 +120,7 @@ fn lead_at(
         beside,
         sync,
         rounds,
-        is_within: are_in_one_function(scene, line, course.line),
+        is_within: are_in_one_call(scene, line, course.line),
         trace,
         course,
     })

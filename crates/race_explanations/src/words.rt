@@ -6,7 +6,7 @@ ghost use Rattle.trace_notes.specs.Places.{place_parts};
 ghost use Rattle.program_text.specs.Programs.{contents};
 ghost use Rattle.race_pairs.specs.Refusals.{line_in};
 ghost use Rattle.race_explanations.specs.Scenes.{setting_of};
-ghost use Rattle.race_explanations.specs.Names.{function_at, noted_function, is_one_name, are_in_one_function, side_word, way_word};
+ghost use Rattle.race_explanations.specs.Names.{function_at, noted_function, is_one_name, are_in_one_function, are_in_one_call, side_word, way_word};
 
 use crate::scene::{Origin, Scene};
 use access_table::word;
@@ -61,6 +61,18 @@ pub(crate) fn are_in_one_function(scene: &Scene<'_, '_>, line: u32, other: u32) 
             noted_function(notes.place_of(line)),
             noted_function(notes.place_of(other)),
         ),
+    }
+}
+
+/// Whether two lines are known to stand in one call of a function. A recorder writes no calls, so of lines with notes this is not known.
+pub(crate) fn are_in_one_call(scene: &Scene<'_, '_>, line: u32, other: u32) -> bool
+    ensures { result ≡ are_in_one_call (setting_of scene.now).origin line other }
+{
+    match &scene.origin {
+        Origin::Program { .. } => are_in_one_function(scene, line, other),
+        Origin::Trace { notes } => {
+            notes.place_of(line).is_none() && notes.place_of(other).is_none()
+        }
     }
 }
 

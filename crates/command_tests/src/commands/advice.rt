@@ -61,6 +61,75 @@ race: write-read on x, 1 time
 const ROUNDS_RECORD: &str =
     r#"{"memory":null,"outcome":"raced","pairs":2,"races":[{"group":1,"help":"what is spawned here again and again is never ordered: give each a place of its own, or use a reducer","kind":"write-write","locations":["x"],"outstanding":null,"parting":{"child":{"code":null,"column":null,"file":null,"function":null,"line":9},"next":{"code":null,"column":null,"file":null,"function":null,"line":4},"spawn":{"code":null,"column":null,"file":null,"function":null,"line":4}},"refused":{"further":0,"place":{"code":null,"column":null,"file":null,"function":null,"line":9},"within":[{"place":{"code":null,"column":null,"file":null,"function":null,"line":4},"way":"spawned"}],"word":"write"},"rule":"determinacy-race","spawn_line":4,"times":1,"witness":{"further":0,"place":{"code":null,"column":null,"file":null,"function":null,"line":9},"within":[{"place":{"code":null,"column":null,"file":null,"function":null,"line":4},"way":"spawned"}],"word":"write"}},{"group":1,"help":"a `sync` in the spawner before line 6 may order them","kind":"write-write","locations":["x"],"outstanding":null,"parting":{"child":{"code":null,"column":null,"file":null,"function":null,"line":9},"next":{"code":null,"column":null,"file":null,"function":null,"line":6},"spawn":{"code":null,"column":null,"file":null,"function":null,"line":4}},"refused":{"further":0,"place":{"code":null,"column":null,"file":null,"function":null,"line":6},"within":[],"word":"write"},"rule":"determinacy-race","spawn_line":4,"times":1,"witness":{"further":0,"place":{"code":null,"column":null,"file":null,"function":null,"line":9},"within":[{"place":{"code":null,"column":null,"file":null,"function":null,"line":4},"way":"spawned"}],"word":"write"}}],"recorded":[],"refusals":2,"requests":5,"traces":1,"untold":[],"version":1,"warned":0,"warnings":[]}"#;
 
+/// The spawner calls itself, and the call is not recorded: no sync in the spawning call stands before the line of the called one.
+const RECURSION: &str =
+    "cilk 1\nmem x\n#at 12 words.c:12, count | words++;\n#at 15 words.c:15, count | cilk_spawn count(text, half);\nspawn 0 @15\nwrite 1 x 1 @12\nwrite 2 x 2 @12\n";
+
+const RECURSION_TOLD: &str = "race: write-write on x, 1 time
+  --> words.c:12, in count
+   |  words++;
+   = this write
+   = spawned at words.c:15, in count
+  --> words.c:12, in count
+   |  words++;
+   = this write, may run before it or after it
+  --> words.c:15, in count
+   |  cilk_spawn count(text, half);
+   = here they part: what is spawned comes to words.c:12, while `count` goes on to words.c:12
+   = help: a `sync` in `count` before words.c:12 may order them
+
+1 refusal at 1 pair of places, among 3 requests
+";
+
+const RECURSION_RECORD: &str =
+    r#"{"memory":null,"outcome":"raced","pairs":1,"races":[{"group":1,"help":"a `sync` in `count` before words.c:12 may order them","kind":"write-write","locations":["x"],"outstanding":null,"parting":{"child":{"code":"words++;","column":null,"file":"words.c","function":"count","line":12},"next":{"code":"words++;","column":null,"file":"words.c","function":"count","line":12},"spawn":{"code":"cilk_spawn count(text, half);","column":null,"file":"words.c","function":"count","line":15}},"refused":{"further":0,"place":{"code":"words++;","column":null,"file":"words.c","function":"count","line":12},"within":[],"word":"write"},"rule":"determinacy-race","spawn_line":15,"times":1,"witness":{"further":0,"place":{"code":"words++;","column":null,"file":"words.c","function":"count","line":12},"within":[{"place":{"code":"cilk_spawn count(text, half);","column":null,"file":"words.c","function":"count","line":15},"way":"spawned"}],"word":"write"}}],"recorded":[],"refusals":1,"requests":3,"traces":1,"untold":[],"version":1,"warned":0,"warnings":[]}"#;
+
+/// Only the spawn has a note, which names no function.
+const NOTED_SPAWN: &str = "cilk 1\nmem x\n#at 5 q.c:12\nspawn 0 @5\nwrite 1 x 7 @9\nread 2 x @6\n";
+
+const NOTED_SPAWN_TOLD: &str = "race: write-read on x, 1 time
+  --> line 9
+   = this write
+   = spawned at q.c:12
+  --> line 6
+   = this read, may run before it or after it
+  --> q.c:12
+   = here they part: what is spawned comes to line 9, while the spawner goes on to line 6
+   = help: a `sync` in the spawner before line 6 may order them
+
+1 refusal at 1 pair of places, among 3 requests
+";
+
+/// Only where the spawner goes on has a note.
+const NOTED_ONWARD: &str = "cilk 1\nmem x\n#at 6 q.c:13\nspawn 0 @5\nwrite 1 x 7 @9\nread 2 x @6\n";
+
+const NOTED_ONWARD_TOLD: &str = "race: write-read on x, 1 time
+  --> line 9
+   = this write
+   = spawned at line 5
+  --> q.c:13
+   = this read, may run before it or after it
+  --> line 5
+   = here they part: what is spawned comes to line 9, while the spawner goes on to q.c:13
+   = help: a `sync` in the spawner before q.c:13 may order them
+
+1 refusal at 1 pair of places, among 3 requests
+";
+
+/// Traces with notes, and what is told of them.
+const NOTED: &[Case<'static>] = &[
+    (Explain(2, 713), RECURSION, Text(1, RECURSION_TOLD)),
+    (ExplainAsJson(9), RECURSION, Text(1, RECURSION_RECORD)),
+    (Explain(2, 713), NOTED_SPAWN, Text(1, NOTED_SPAWN_TOLD)),
+    (Explain(2, 713), NOTED_ONWARD, Text(1, NOTED_ONWARD_TOLD)),
+];
+
+/// A line with a note may be one of another call, so no sync before it is told as sure.
+#[test]
+fn no_sync_is_told_as_sure_by_notes(rt: HostRuntime) {
+    check_all(&rt, rt.alloc(), NOTED);
+}
+
 /// Traces and what is told of them.
 const ADVISED: &[Case<'static>] = &[
     (Explain(2, 713), CALLEE, Text(1, CALLEE_TOLD)),

@@ -68,7 +68,7 @@ const NOTED_TRACE_TOLD: &str = "race: write-read on a local of main, 1 time
   --> pair.c:5, in main
    |  cilk_spawn f(&x, 7);
    = here they part: what is spawned comes to pair.c:9, while `main` goes on to pair.c:6
-   = help: a `sync` in `main` before pair.c:6 would order them
+   = help: a `sync` in `main` before pair.c:6 may order them
 
 1 refusal at 1 pair of places, among 3 requests
 recorded: ./pair

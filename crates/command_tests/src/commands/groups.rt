@@ -10,7 +10,7 @@ const SORT_TRACE: &str =
 
 const SORT_TRACE_TOLD: &str =
     "3 pairs of places part at one spawn: what is spawned at sort.c:55 runs beside what `cilksort` does from sort.c:62 on
-   = help: a `sync` in `cilksort` before sort.c:62 would order them
+   = help: a `sync` in `cilksort` before sort.c:62 may order them
 
 race: write-read on a[0], 1 time
   --> sort.c:30, in seqsort

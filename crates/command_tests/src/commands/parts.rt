@@ -166,7 +166,7 @@ race: write-read on x, 1 time
    = this read, may run before it or after it
   --> r.c:20, in main
    = here they part: what is spawned comes to q.c:3, while `main` goes on to q.c:13
-   = help: a `sync` in `main` before q.c:13 would order them
+   = help: a `sync` in `main` before q.c:13 may order them
 
 3 refusals at 3 pairs of places, among 9 requests in 3 traces
 ";
