@@ -36,6 +36,7 @@ use Rattle.race_pairs.proofs.Framed.{split_goes_on, split_old, unused_with, unus
 use Rattle.race_pairs.proofs.Made.{legal_rest}
 use Rattle.race_pairs.proofs.Climbing.{number_within}
 use Rattle.race_pairs.proofs.BlockJoins.{TurnsOff, inside}
+use Rattle.race_pairs.proofs.Straight.{GoesOnTo, goes_here}
 use Rattle.race_pairs.proofs.Ways.{Home, IsLow, IsBy, Step, Way, at_home, way_with, stack_next, stack_goes_on}
 
 -- One event more.
@@ -121,7 +122,7 @@ pub record Left (entries : Entries) (g : Home) (o x : ℕ) : Type 0 where
   pub within : o ≤ length entries
   pub is_behind : g.number < o
   pub known : entry.request.strand < unused (control_part entries)
-  pub from_start : IsPrefix g.start (address (control_part entries) entry.request.strand)
+  pub from_start : GoesOnTo g.start (address (control_part entries) entry.request.strand)
   pub leads : IsPrefix (address (control_part entries) entry.request.strand) (address (control_part entries) x)
   pub at_base : frames earlier entry.request.strand ≡ g.base
   pub in_block : stack (control_part earlier) entry.request.strand ≡ block g.join g.below
@@ -140,7 +141,7 @@ left_more entry entries l g o x y w lt p =
       within = let le = w.within in omega arith;
       is_behind = w.is_behind;
       known = omega (arith, w.known, unused_with (control_part entries) (event_of entry));
-      from_start = subst (IsPrefix g.start) (sym at) w.from_start;
+      from_start = subst (GoesOnTo g.start) (sym at) w.from_start;
       leads = subst (λ (a : Address). IsPrefix a (address (control_part (entry ∷ entries)) y)) (sym at)
           (prefix-transitive (address (control_part entries) w.entry.request.strand) (address (control_part entries) x)
           (address (control_part (entry ∷ entries)) y) w.leads p);
@@ -150,7 +151,7 @@ left_more entry entries l g o x y w lt p =
 
 left_new : (entry : Entry) (entries : Entries) → Legal (control_part (entry ∷ entries)) → (g : Home) → g.number ≤ length entries → (x y : ℕ) →
     IsBy (event_of entry) x → frames entries x ≡ g.base → stack (control_part entries) x ≡ block g.join g.below → x < unused (control_part entries) →
-    IsPrefix g.start (address (control_part entries) x) → IsPrefix (address (control_part entries) x) (address (control_part (entry ∷ entries)) y) →
+    GoesOnTo g.start (address (control_part entries) x) → IsPrefix (address (control_part entries) x) (address (control_part (entry ∷ entries)) y) →
     Left (entry ∷ entries) g (suc (length entries)) y
 left_new entry entries l g late x y is a b lt p up =
     let own : entry.request.strand ≡ x = by_strand entry.request.strand entry.request.act entry.answer x is in
@@ -165,7 +166,7 @@ left_new entry entries l g late x y is a b lt p up =
       within = omega arith;
       is_behind = omega arith;
       known = omega (arith, own, lt, unused_with (control_part entries) (event_of entry));
-      from_start = subst (IsPrefix g.start) (sym at) p;
+      from_start = subst (GoesOnTo g.start) (sym at) p;
       leads = subst (λ (z : Address). IsPrefix z (address (control_part (entry ∷ entries)) y)) (sym at) up;
       at_base = ap (frames entries) own ∙ a;
       in_block = ap (stack (control_part entries)) own ∙ b;
@@ -247,6 +248,7 @@ known_first h k s b f P (then l a) low = record {
         prefix_siblings (address h s) next word (subst₂ IsPrefix (next_seen h s b.child b.next b.join b.first made.numbers).2 at p) in
         let here : x ≡ b.next = e ∙ ap (by_word b.child b.next b.join) (sym same_word) in
         at_home (split_goes_on b.first s b.child b.next b.join x (inr here) k f) (ap (stack (split s b.child b.next b.join b.first ∷ h)) here ∙ there.1)
+        (subst (λ (z : ℕ). GoesOnTo home.start (address (split s b.child b.next b.join b.first ∷ h) z)) (sym here) (goes_here home.start))
 
 -- with one entry more
 known_more : (entry : Entry) (entries : Entries) → Legal (control_part (entry ∷ entries)) → (S s : ℕ) (b : Spawned) →

@@ -23,11 +23,13 @@ pub mod Placed
 pub mod Grown
 pub mod Nearer
 pub mod BlockJoins
+pub mod Straight
 pub mod Ways
 pub mod Homes
 pub mod Linked
 pub mod Encountered
 pub mod SyncPlaces
+pub mod SharedSyncs
 pub mod SpawnLines
 pub mod Knowing
 pub mod Witnesses

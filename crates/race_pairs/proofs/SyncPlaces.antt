@@ -39,12 +39,13 @@ use Rattle.race_pairs.proofs.Asked.{asked_begun}
 use Rattle.race_pairs.proofs.Numbers.{legal_before, so_far}
 use Rattle.race_pairs.proofs.Forking.{of_spawn, next_begins}
 use Rattle.race_pairs.proofs.BlockJoins.{address_lasts, sync_orders}
+use Rattle.race_pairs.proofs.Straight.{GoesOnTo, goes_prefix}
 use Rattle.race_pairs.proofs.Ways.{Way, at_home, away, least_deep}
 use Rattle.race_pairs.proofs.Homes.{Left, Known, known, over_stands, none_before_spawn}
 
 -- Entries by their numbers.
 
-runs_there : (shape : Shape) (later earlier : Entries) (entry : Entry) → IsLegal shape (later ++ entry ∷ earlier) →
+pub runs_there : (shape : Shape) (later earlier : Entries) (entry : Entry) → IsLegal shape (later ++ entry ∷ earlier) →
     Running (control_part earlier) entry.request.strand
 runs_there shape [] earlier entry l = l.1.runs
 runs_there shape (newer ∷ later) earlier entry l = runs_there shape later earlier entry l.0
@@ -84,7 +85,7 @@ frames_stand_there later earlier entry x l e =
 legal_there : (later earlier : Entries) (entry : Entry) → Legal (control_part (later ++ entry ∷ earlier)) → Legal (control_part earlier)
 legal_there later earlier entry l = legal_rest (event_of entry) (control_part earlier) (legal_before later (entry ∷ earlier) l)
 
-split_off : (later earlier : Entries) (entry : Entry) → (later ++ (entry ∷ [])) ++ earlier ≡ later ++ entry ∷ earlier
+pub split_off : (later earlier : Entries) (entry : Entry) → (later ++ (entry ∷ [])) ++ earlier ≡ later ++ entry ∷ earlier
 split_off later earlier entry = append_assoc later (entry ∷ []) earlier
 
 address_there : (later earlier : Entries) (entry : Entry) → Legal (control_part (later ++ entry ∷ earlier)) → (x : ℕ) → x < unused (control_part earlier) →
@@ -102,30 +103,19 @@ pub record Between (es : Entries) (p : Parting) (x : ℕ) (base : List ℕ) : Ty
   pub spawn : IsSpawn es p.entry p.spawner p.spawned
   pub base_is : base ≡ frames es p.spawner
   pub access_begun : Begun (control_part es) p.by_next
-  pub from_next : IsPrefix (address (control_part es) p.spawned.next) (address (control_part es) x)
+  pub from_next : GoesOnTo (address (control_part es) p.spawned.next) (address (control_part es) x)
   pub to_access : IsPrefix (address (control_part es) x) (address (control_part es) p.by_next)
+
+-- it is such a place, to which no child leads from the next of the spawn
+pub record OnWay (es : Entries) (p : Parting) (number : ℕ) : Type 0 where
+  pub spawn : IsSpawn es p.entry p.spawner p.spawned
+  pub place : IsPlaceToSync es p number
+  pub straight : GoesOnTo (address (control_part es) p.spawned.next) (address (control_part es) place.entry.request.strand)
 
 place : (later earlier : Entries) (entry : Entry) (p : Parting) (base : List ℕ) → Between (later ++ entry ∷ earlier) p entry.request.strand base →
     p.entry ≤ length earlier → frames earlier entry.request.strand ≡ base → (below : Stack) →
-    stack (control_part earlier) entry.request.strand ≡ block p.spawned.join below → IsPlaceToSync (later ++ entry ∷ earlier) p (suc (length earlier))
-place later earlier entry p base w le at_base below in_block = record {
-  entry = entry;
-  earlier = earlier;
-  later = later;
-  whole = refl;
-  number_is = refl;
-  is_behind = omega (arith, le);
-  from_next = precedes_reach (control_part (later ++ entry ∷ earlier)) l p.spawned.next entry.request.strand
-      (of_spawn (later ++ entry ∷ earlier) l p.entry p.spawner p.spawned w.spawn).next_begun begun
-      (prefix-reaches (address (control_part (later ++ entry ∷ earlier)) p.spawned.next)
-      (address (control_part (later ++ entry ∷ earlier)) entry.request.strand) w.from_next);
-  to_access = precedes_reach (control_part (later ++ entry ∷ earlier)) l entry.request.strand p.by_next begun w.access_begun
-      (prefix-reaches (address (control_part (later ++ entry ∷ earlier)) entry.request.strand)
-      (address (control_part (later ++ entry ∷ earlier)) p.by_next) w.to_access);
-  in_function = at_base ∙ (w.base_is ∙ frames_stand_there later earlier entry p.spawner l there.ended);
-  orders = sync_orders (control_part earlier) l_there entry.request.strand p.spawned.child p.spawned.join below
-      (runs_there w.legal.0 later earlier entry w.legal.1) in_block there.child_known there.join_known there.turns;
-}
+    stack (control_part earlier) entry.request.strand ≡ block p.spawned.join below → OnWay (later ++ entry ∷ earlier) p (suc (length earlier))
+place later earlier entry p base w le at_base below in_block = record { spawn = w.spawn; place = here; straight = w.from_next }
   where
     l : Legal (control_part (later ++ entry ∷ earlier))
     l = legal-part w.legal.0 (later ++ entry ∷ earlier) w.legal.1
@@ -138,6 +128,28 @@ place later earlier entry p base w le at_base below in_block = record {
 
     there : Known (control_part earlier) (frames earlier) (length earlier) (Left earlier) p.entry p.spawner p.spawned
     there = known earlier l_there p.entry p.spawner p.spawned (spawn_back later earlier entry p w.spawn le)
+
+    here : IsPlaceToSync (later ++ entry ∷ earlier) p (suc (length earlier))
+    here = record {
+      entry = entry;
+      earlier = earlier;
+      later = later;
+      whole = refl;
+      number_is = refl;
+      is_behind = omega (arith, le);
+      from_next = precedes_reach (control_part (later ++ entry ∷ earlier)) l p.spawned.next entry.request.strand
+          (of_spawn (later ++ entry ∷ earlier) l p.entry p.spawner p.spawned w.spawn).next_begun begun
+          (prefix-reaches (address (control_part (later ++ entry ∷ earlier)) p.spawned.next)
+          (address (control_part (later ++ entry ∷ earlier)) entry.request.strand)
+          (goes_prefix (address (control_part (later ++ entry ∷ earlier)) p.spawned.next)
+          (address (control_part (later ++ entry ∷ earlier)) entry.request.strand) w.from_next));
+      to_access = precedes_reach (control_part (later ++ entry ∷ earlier)) l entry.request.strand p.by_next begun w.access_begun
+          (prefix-reaches (address (control_part (later ++ entry ∷ earlier)) entry.request.strand)
+          (address (control_part (later ++ entry ∷ earlier)) p.by_next) w.to_access);
+      in_function = at_base ∙ (w.base_is ∙ frames_stand_there later earlier entry p.spawner l there.ended);
+      orders = sync_orders (control_part earlier) l_there entry.request.strand p.spawned.child p.spawned.join below
+          (runs_there w.legal.0 later earlier entry w.legal.1) in_block there.child_known there.join_known there.turns;
+    }
 
 -- The first entry on the way.
 
@@ -203,37 +215,38 @@ module _ (shape : Shape) (later earlier : Entries) (access : Entry) (legal : IsL
       there.ways access.request.strand known_here (subst₂ IsPrefix start_es (address_there later earlier access l access.request.strand known_here) begins)
 
   at_access : frames earlier access.request.strand ≡ there.g.base → stack (control_part earlier) access.request.strand ≡ block there.g.join there.g.below →
-      (found : ℕ) → IsToward p.entry (suc (length earlier)) (frames earlier access.request.strand) found → IsPlaceToSync (later ++ access ∷ earlier) p found
-  at_access a b found (inl t) =
-      subst (IsPlaceToSync (later ++ access ∷ earlier) p) (sym t.1)
+      GoesOnTo there.g.start (address (control_part earlier) access.request.strand) → (found : ℕ) →
+      IsToward p.entry (suc (length earlier)) (frames earlier access.request.strand) found → OnWay (later ++ access ∷ earlier) p found
+  at_access a b straight found (inl t) =
+      subst (OnWay (later ++ access ∷ earlier) p) (sym t.1)
       (place later earlier access p there.g.base (record {
         legal = (shape, legal);
         spawn = is.spawn;
         base_is = base_es;
         access_begun = access_begun;
-        from_next = begins;
+        from_next = subst₂ GoesOnTo (sym start_es) (sym (address_there later earlier access l access.request.strand known_here)) straight;
         to_access = ([], ap (address (control_part (later ++ access ∷ earlier))) (sym own) ∙ sym (append-nil (address (control_part (later ++ access ∷ earlier)) access.request.strand)));
       }) spawn_first a there.g.below (joined_in access.request.strand (control_part earlier) b))
-  at_access a b found (inr t) =
+  at_access a b straight found (inr t) =
       let within : Contains there.g.base found = subst (λ (z : List ℕ). Contains z found) a t.0 in
       let low = All-contains (λ (n : ℕ). n ≤ there.g.number) there.g.base found there.low within in
       absurd (omega (arith, there.number_is, low, t.1))
 
   at_exit : (e : ℕ) → Left earlier there.g e access.request.strand → IsLeast p.entry (frames earlier access.request.strand) (Some e) →
-      (found : ℕ) → IsToward p.entry (suc (length earlier)) (frames earlier access.request.strand) found → IsPlaceToSync (later ++ access ∷ earlier) p found
+      (found : ℕ) → IsToward p.entry (suc (length earlier)) (frames earlier access.request.strand) found → OnWay (later ++ access ∷ earlier) p found
   at_exit e left least found (inl t) =
       let low = All-contains (λ (n : ℕ). n ≤ p.entry) (frames earlier access.request.strand) e t.0 least.0 in
       absurd (omega (arith, least.1))
   at_exit e left least found (inr t) =
-      subst (IsPlaceToSync (later ++ access ∷ earlier) p) (sym (one_least p.entry (frames earlier access.request.strand) e found least t ∙ left.number_is))
-      (subst (λ (z : Entries). IsPlaceToSync z p (suc (length left.earlier))) whole
+      subst (OnWay (later ++ access ∷ earlier) p) (sym (one_least p.entry (frames earlier access.request.strand) e found least t ∙ left.number_is))
+      (subst (λ (z : Entries). OnWay z p (suc (length left.earlier))) whole
       (place (later ++ access ∷ left.later) left.earlier left.entry p there.g.base
       (subst (λ (z : Entries). Between z p left.entry.request.strand there.g.base) (sym whole) (record {
         legal = (shape, legal);
         spawn = is.spawn;
         base_is = base_es;
         access_begun = access_begun;
-        from_next = subst₂ IsPrefix (sym start_es) (sym at_left) left.from_start;
+        from_next = subst₂ GoesOnTo (sym start_es) (sym at_left) left.from_start;
         to_access = subst₂ IsPrefix (sym at_left)
             (sym (address_there later earlier access l access.request.strand known_here) ∙ ap (address (control_part (later ++ access ∷ earlier))) own) left.leads;
       })) (omega (arith, there.number_is, left.number_is, left.is_behind)) left.at_base there.g.below
@@ -246,25 +259,25 @@ module _ (shape : Shape) (later earlier : Entries) (access : Entry) (legal : IsL
       at_left = address_there later earlier access l left.entry.request.strand left.known
 
   pub place_to_sync : (found : ℕ) → IsToward p.entry (suc (length earlier)) (frames earlier access.request.strand) found →
-      IsPlaceToSync (later ++ access ∷ earlier) p found
+      OnWay (later ++ access ∷ earlier) p found
   place_to_sync found toward = go way_here
     where
-      go : Way there.g (control_part earlier) (frames earlier) (Left earlier there.g) access.request.strand → IsPlaceToSync (later ++ access ∷ earlier) p found
-      go (at_home a b) = at_access a b found toward
+      go : Way there.g (control_part earlier) (frames earlier) (Left earlier there.g) access.request.strand → OnWay (later ++ access ∷ earlier) p found
+      go (at_home a b straight) = at_access a b straight found toward
       go (away e left d) =
           at_exit e left (subst (λ (n : ℕ). IsLeast n (frames earlier access.request.strand) (Some e)) there.number_is
-          (least_deep there.g there.low e left.is_behind (frames earlier access.request.strand) (stack (control_part earlier) access.request.strand) d)) found toward
+          (least_deep there.g there.low e left.is_behind (address (control_part earlier) access.request.strand) (frames earlier access.request.strand)
+          (stack (control_part earlier) access.request.strand) d)) found toward
 
 -- Entries in a slice, the oldest first.
 
 place_told : (told : List Entry) (shape : Shape) → IsLegal shape (reverse told) → (s o : ℕ) (p : Parting) → IsParting (reverse told) s o p →
-    (number found : ℕ) → strand_at told number ≡ Some p.by_next → IsToward p.entry number (chain_at told number) found →
-    IsPlaceToSync (reverse told) p found
+    (number found : ℕ) → strand_at told number ≡ Some p.by_next → IsToward p.entry number (chain_at told number) found → OnWay (reverse told) p found
 place_told told shape legal s o p is zero found at toward = absurd (let none : strand_at told zero ≡ None = refl in cc)
 place_told told shape legal s o p is (suc before) found at toward = by (entry_at told (suc before)) refl at
   where
     by : (here : Option Entry) → entry_at told (suc before) ≡ here → option_map (λ (entry : Entry). entry.request.strand) here ≡ Some p.by_next →
-        IsPlaceToSync (reverse told) p found
+        OnWay (reverse told) p found
     by None e f = absurd (cc)
     by (Some one) e f =
         let within = slice_get_within told before one e in
@@ -280,27 +293,32 @@ place_told told shape legal s o p is (suc before) found at toward = by (entry_at
         let chain : chain_at told (suc before) ≡ frames (reverse (take before told)) one.request.strand =
         ap (λ (z : Option Entry). unwrap_or (option_map (λ entry. frames (reverse (take (suc before - 1) told)) entry.request.strand) z) []) e ∙
         ap (λ (n : ℕ). frames (reverse (take n told)) one.request.strand) back in
-        subst (λ (z : Entries). IsPlaceToSync z p found) whole
+        subst (λ (z : Entries). OnWay z p found) whole
         (place_to_sync shape (reverse (drop (before + 1) told)) (reverse (take before told)) one (subst (IsLegal shape) (sym whole) legal) s o p
         (subst (λ (z : Entries). IsParting z s o p) (sym whole) is) own found
         (subst₂ (λ (n : ℕ) (numbers : List ℕ). IsToward p.entry n numbers found) (ap suc (sym long)) chain toward))
 
--- where two strands part, what comes next there is such a place
-pub orders_onward : (told : List Entry) → (shape : Shape) × IsLegal shape (reverse told) → (pair : Pair) (parting : Option Parting) (onward : Option ℕ) →
-    PartAt told pair parting → GoesOn told pair parting onward → OrdersOnward told parting onward
-orders_onward told legal pair None onward parts goes = tt
-orders_onward told legal pair (Some p) onward parts goes = by (strands_of told pair) parts
+-- where two strands part, what comes next there is on the way
+pub on_way : (told : List Entry) → (shape : Shape) × IsLegal shape (reverse told) → (pair : Pair) (p : Parting) (onward : Option ℕ) →
+    PartAt told pair (Some p) → GoesOn told pair (Some p) onward → (found : ℕ) × (onward ≡ Some found) × OnWay (reverse told) p found
+on_way told legal pair p onward parts goes = by (strands_of told pair) parts
   where
-    placed : (s o : ℕ) → IsParting (reverse told) s o p → IfSome onward (IsPlaceToSync (reverse told) p)
-    placed s o is =
-        subst (λ (z : Option ℕ). IfSome z (IsPlaceToSync (reverse told) p)) (sym goes.2)
-        (place_told told legal.0 legal.1 s o p is goes.1 goes.0 goes.4 goes.5)
+    placed : (s o : ℕ) → IsParting (reverse told) s o p → (found : ℕ) × (onward ≡ Some found) × OnWay (reverse told) p found
+    placed s o is = (goes.0, goes.2, place_told told legal.0 legal.1 s o p is goes.1 goes.0 goes.4 goes.5)
 
     none_parts : Some p ≡ None → ⊥
     none_parts e = cc
 
     by : (strands : Option (ℕ × ℕ)) → MatchOption strands (Some p ≡ None)
         (λ both. IsParting (reverse told) both.0 both.1 p × (IsSome (Some p) ↔ IsParallel (control_part (reverse told)) both.0 both.1)) →
-        IfSome onward (IsPlaceToSync (reverse told) p)
+        (found : ℕ) × (onward ≡ Some found) × OnWay (reverse told) p found
     by None e = absurd (none_parts e)
     by (Some both) parted = placed both.0 both.1 parted.0
+
+-- and such a place
+pub orders_onward : (told : List Entry) → (shape : Shape) × IsLegal shape (reverse told) → (pair : Pair) (parting : Option Parting) (onward : Option ℕ) →
+    PartAt told pair parting → GoesOn told pair parting onward → OrdersOnward told parting onward
+orders_onward told legal pair None onward parts goes = tt
+orders_onward told legal pair (Some p) onward parts goes =
+    let on = on_way told legal pair p onward parts goes in
+    subst (λ (z : Option ℕ). IfSome z (IsPlaceToSync (reverse told) p)) (sym on.1) on.2.place
