@@ -1,8 +1,10 @@
 -- A sync in place of where the spawner goes on for one pair orders another pair too, whose strands part at the same spawn and for which the
 -- spawner goes on no earlier.
 -- es: the entries; p, q: where the strands of two pairs part; o, n: numbers of entries
-use Rattle.std.proofs.Common.{◌≡◌, ◌⊎◌, inl, inr, ℕ, suc, ◌≤◌, List, [], ◌∷◌, ◌++◌, length, reverse, Some, refl, sym, ap, ◌∙◌, subst, arith}
-use Rattle.std.proofs.lemmas.List.{length-append}
+use Rattle.std.proofs.Common.{◌≡◌, ◌⊎◌, inl, inr, ℕ, suc, ◌<◌, ◌≤◌, List, [], ◌∷◌, ◌++◌, length, map, reverse, Option, Some, refl, sym, ap, ◌∙◌, subst, subst₂, arith}
+use Rattle.std.specs.Prelude.{unwrap_or}
+use Rattle.std.specs.Option.{option_map}
+use Rattle.std.proofs.lemmas.List.{length-append, length-reverse, reverse-reverse}
 use Rattle.model_strands.specs.declared.spawned.Spawned.{Spawned}
 use Rattle.model_strands.specs.Address.{Address}
 use Rattle.model_strands.specs.Strands.{Running, Begun}
@@ -23,12 +25,14 @@ use Rattle.race_gate.proofs.Races.{extends-part, legal-part}
 use Rattle.race_pairs.specs.declared.lineage.Parting.{Parting}
 use Rattle.race_pairs.specs.declared.race.Pair.{Pair}
 use Rattle.race_pairs.specs.Frames.{frames}
-use Rattle.race_pairs.specs.Makers.{IsSpawn}
+use Rattle.race_pairs.specs.Makers.{HasNumber, IsSpawn}
+use Rattle.race_pairs.specs.Refusals.{entry_at, line_in}
 use Rattle.race_pairs.specs.Encounters.{PartAt, GoesOn}
 use Rattle.race_pairs.specs.Syncs.{SyncOrders, IsPlaceToSync}
-use Rattle.race_pairs.proofs.Climbing.{same_entry}
+use Rattle.race_pairs.proofs.Climbing.{number_within, same_entry}
 use Rattle.race_pairs.proofs.Straight.{GoesOnTo, either_precedes}
-use Rattle.race_pairs.proofs.SyncPlaces.{OnWay, on_way, runs_there, split_off}
+use Rattle.race_pairs.proofs.SyncPlaces.{OnWay, on_way, runs_there, number_there, split_off}
+use Rattle.race_pairs.proofs.Witnesses.{numbered, line_same}
 
 -- what an entry began is known by its number
 one_spawn : (es : Entries) (number s r : ℕ) (b c : Spawned) → IsSpawn es number s b → IsSpawn es number r c → (s ≡ r) × (b ≡ c)
@@ -157,3 +161,22 @@ orders_both told legal pair other p q o n parts goes other_parts other_goes same
     let here : one.0 ≡ o = let e = one.1 in cc in
     let there : two.0 ≡ n = let e = two.1 in cc in
     place_for_both legal.0 (reverse told) legal.1 p q o n same le (subst (OnWay (reverse told) p) here one.2) (subst (OnWay (reverse told) q) there two.2)
+
+-- the line of the entry in whose place the sync stands is known by its number
+pub line_of_place : (told : List Entry) (p : Parting) (number : ℕ) (place : IsPlaceToSync (reverse told) p number) →
+    line_in (map (λ (entry : Entry). entry.request.line) told) number ≡ place.entry.request.line
+line_of_place told p number place =
+    let here : HasNumber (reverse told) number place.entry =
+    subst₂ (λ (es : Entries) (n : ℕ). HasNumber es n place.entry) place.whole (sym place.number_is) (number_there place.later place.earlier place.entry) in
+    let there = numbered (reverse told) [] number place.entry here in
+    let within = there.1 in
+    let whole : reverse (reverse told) ++ [] ≡ told ++ [] = ap (λ (xs : List Entry). xs ++ []) (reverse-reverse told) in
+    let entry_is : entry_at (told ++ []) number ≡ Some place.entry = ap (λ (xs : List Entry). entry_at xs number) (sym whole) ∙ there.0 in
+    line_same told [] number (omega (arith, length-reverse told)) ∙
+    ap (λ (entry : Option Entry). unwrap_or (option_map (λ (one : Entry). one.request.line) entry) 0) entry_is
+
+-- the spawn has a number, from 1 on
+pub spawn_numbered : (told : List Entry) → (shape : Shape) × IsLegal shape (reverse told) → (pair : Pair) (p : Parting) (onward : Option ℕ) →
+    PartAt told pair (Some p) → GoesOn told pair (Some p) onward → 0 < p.entry
+spawn_numbered told legal pair p onward parts goes =
+    let on = on_way told legal pair p onward parts goes in (number_within (reverse told) p.entry on.2.spawn.0 on.2.spawn.1).0

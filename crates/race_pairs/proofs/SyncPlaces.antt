@@ -50,7 +50,7 @@ pub runs_there : (shape : Shape) (later earlier : Entries) (entry : Entry) → I
 runs_there shape [] earlier entry l = l.1.runs
 runs_there shape (newer ∷ later) earlier entry l = runs_there shape later earlier entry l.0
 
-number_there : (later earlier : Entries) (entry : Entry) → HasNumber (later ++ entry ∷ earlier) (suc (length earlier)) entry
+pub number_there : (later earlier : Entries) (entry : Entry) → HasNumber (later ++ entry ∷ earlier) (suc (length earlier)) entry
 number_there [] earlier entry = inl (refl, refl)
 number_there (newer ∷ later) earlier entry = inr (number_there later earlier entry)
 
