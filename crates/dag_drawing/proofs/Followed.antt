@@ -50,9 +50,9 @@ strand_within told i d below legal begun blocks edges walk =
 
 -- ---- one more entry, by its answer
 
--- the walk after an act with this answer
-abbrev After : List Bool → List (Option ℕ) → List Edge → ℕ → Act → Answer → History → Type 0
-After begun blocks edges strand act answer h = IsWalk begun blocks edges (with_event (event_between strand act answer) h)
+-- the history after an act with this answer
+abbrev after_act : ℕ → Act → Answer → History → History
+after_act strand act answer h = with_event (event_between strand act answer) h
 
 -- what is known of an entry that may follow
 abbrev MayCome : ℕ → Act → Answer → History → Type 0
@@ -108,50 +108,50 @@ IsQuiet answer =
 
 module _ (begun : List Bool) (blocks : List (Option ℕ)) (edges : List Edge) (strand : ℕ) (h : History) (walk : IsWalk begun blocks edges h) where
   after_split : (act : Act) (spawned : Spawned) → MayCome strand act (Split spawned) h →
-      After (begun ++ marks_of spawned.first) (blocks ++ blocks_of spawned.first spawned.join (get_or blocks strand None))
-      (edges ++ forks strand spawned.child spawned.next) strand act (Split spawned) h
+      IsWalk (begun ++ marks_of spawned.first) (blocks ++ blocks_of spawned.first spawned.join (get_or blocks strand None))
+      (edges ++ forks strand spawned.child spawned.next) (after_act strand act (Split spawned) h)
   after_split Spawn spawned (run, b, a) = walk_split begun blocks edges h strand spawned.child spawned.next spawned.join spawned.first walk a
   after_split act spawned (run, b, a) = absurd b
 
-  after_waits : (act : Act) → MayCome strand act Waits h → After begun blocks (edges ++ arrival strand (get_or blocks strand None)) strand act Waits h
+  after_waits : (act : Act) → MayCome strand act Waits h → IsWalk begun blocks (edges ++ arrival strand (get_or blocks strand None)) (after_act strand act Waits h)
   after_waits Sync (run, b, a) = walk_waits begun blocks edges h strand walk run a
   after_waits act (run, b, a) = absurd b
 
-  after_ended : (act : Act) → MayCome strand act Ended h → After begun blocks (edges ++ arrival strand (get_or blocks strand None)) strand act Ended h
+  after_ended : (act : Act) → MayCome strand act Ended h → IsWalk begun blocks (edges ++ arrival strand (get_or blocks strand None)) (after_act strand act Ended h)
   after_ended Return (run, b, a) = walk_ended begun blocks edges h strand walk run a
   after_ended act (run, b, a) = absurd b
 
   after_joined : (act : Act) (join : ℕ) → MayCome strand act (Joined join) h → (join < length begun) ×
-      After (set begun join true) blocks (edges ++ arrival strand (get_or blocks strand None)) strand act (Joined join) h
+      IsWalk (set begun join true) blocks (edges ++ arrival strand (get_or blocks strand None)) (after_act strand act (Joined join) h)
   after_joined Sync join (run, b, a) =
       let known : join < unused h = join_known h strand join walk.legal (joined_at h strand join a) in
       (omega (arith, known, walk.marks), walk_joined begun blocks edges h strand join walk run known a)
   after_joined act join (run, b, a) = absurd b
 
   after_returned : (act : Act) (join : ℕ) → MayCome strand act (EndedJoined join) h → (join < length begun) ×
-      After (set begun join true) blocks (edges ++ arrival strand (get_or blocks strand None)) strand act (EndedJoined join) h
+      IsWalk (set begun join true) blocks (edges ++ arrival strand (get_or blocks strand None)) (after_act strand act (EndedJoined join) h)
   after_returned Return join (run, b, a) =
       let known : join < unused h = join_known h strand join walk.legal (returned_at h strand join a) in
       (omega (arith, known, walk.marks), walk_ended_joined begun blocks edges h strand join walk run known a)
   after_returned act join (run, b, a) = absurd b
 
-  after_same : (act : Act) → MayCome strand act Same h → After begun blocks edges strand act Same h
+  after_same : (act : Act) → MayCome strand act Same h → IsWalk begun blocks edges (after_act strand act Same h)
   after_same Sync (run, b, a) = walk_same begun blocks edges h strand walk a
   after_same Call (run, b, a) = walk_call begun blocks edges h strand walk a
   after_same act (run, b, a) = absurd b
 
-  after_resumed : (act : Act) → MayCome strand act Resumed h → After begun blocks edges strand act Resumed h
+  after_resumed : (act : Act) → MayCome strand act Resumed h → IsWalk begun blocks edges (after_act strand act Resumed h)
   after_resumed Return (run, b, a) = walk_resumed begun blocks edges h strand walk a
   after_resumed act (run, b, a) = absurd b
 
-  after_finished : (act : Act) → MayCome strand act Finished h → After begun blocks edges strand act Finished h
+  after_finished : (act : Act) → MayCome strand act Finished h → IsWalk begun blocks edges (after_act strand act Finished h)
   after_finished Return (run, b, a) = walk_finished begun blocks edges h strand walk run a
   after_finished act (run, b, a) = absurd b
 
-  after_access : (act : Act) (answer : Answer) → IsOfAccess answer → After begun blocks edges strand act answer h
+  after_access : (act : Act) (answer : Answer) → IsOfAccess answer → IsWalk begun blocks edges (after_act strand act answer h)
   after_access act answer of = subst (λ (o : Option Event). IsWalk begun blocks edges (with_event o h)) (sym (no_event strand act answer of)) walk
 
-  after_quiet : (act : Act) (answer : Answer) → MayCome strand act answer h → IsQuiet answer → After begun blocks edges strand act answer h
+  after_quiet : (act : Act) (answer : Answer) → MayCome strand act answer h → IsQuiet answer → IsWalk begun blocks edges (after_act strand act answer h)
   after_quiet act Same may quiet = after_same act may
   after_quiet act Resumed may quiet = after_resumed act may
   after_quiet act Finished may quiet = after_finished act may
@@ -182,11 +182,11 @@ module _ (told : List Entry) (i : ℕ) (d : Entry) (below : i < length told) (le
   -- the walk after the entry is the one after its act with its answer
   come : (answer : Answer) → here.answer ≡ answer → (begun old_begun : List Bool) (blocks old_blocks : List (Option ℕ)) (edges old_edges : List Edge) →
       begun ≡ old_begun → blocks ≡ old_blocks → edges ≡ old_edges →
-      After old_begun old_blocks old_edges here.request.strand here.request.act answer (At told i) → IsWalk begun blocks edges (At told (i + 1))
+      IsWalk old_begun old_blocks old_edges (after_act here.request.strand here.request.act answer (At told i)) → IsWalk begun blocks edges (At told (i + 1))
   come answer is begun old_begun blocks old_blocks edges old_edges e f g after =
       let there : IsWalk old_begun old_blocks old_edges (At told (i + 1)) =
       subst (λ (xs : Entries). IsWalk old_begun old_blocks old_edges (control_part xs)) (sym (so_far told i d below))
-      (subst (λ (x : Answer). After old_begun old_blocks old_edges here.request.strand here.request.act x (At told i)) (sym is) after) in
+      (subst (λ (x : Answer). IsWalk old_begun old_blocks old_edges (after_act here.request.strand here.request.act x (At told i))) (sym is) after) in
       rw (e, f, g) there
 
   pub next_split : (old_begun begun : List Bool) (old_blocks blocks : List (Option ℕ)) (old_edges edges : List Edge) → IsWalk old_begun old_blocks old_edges (At told i) →
