@@ -48,19 +48,27 @@ pub record TellsEntries (setting : Setting) (extent : Extent) (entries : List En
   pub text_is : text ≡ groups_text setting (most_shown extent) cases groups ++ pairs_left_out setting.origin (most_pairs extent) (length pairs) ++
       summary setting.origin entries (length pairs)
 
--- the entries are those of a run of a program, which a file with these lines holds
-abbrev pub program_setting : (is_painted : Bool) → (file : List ℕ) → (source : List (List ℕ)) → Contents → List Entry → Setting
-program_setting is_painted file source program entries = record {
-  look = look_of is_painted source;
-  origin = in_program file source program.functions;
-  mems = program.known.mems;
-  reducers = program.known.reducers;
+-- a file with a program: its name, its lines, and the program that they mean
+pub record ProgramFile : Type 0 where
+  pub name : List ℕ
+  pub lines : List (List ℕ)
+  pub program : Contents
+
+abbrev pub program_file : (name : List ℕ) → (lines : List (List ℕ)) → Contents → ProgramFile
+program_file name lines program = record { name = name; lines = lines; program = program }
+
+-- the entries are those of a run of the program in a file
+abbrev pub program_setting : (is_painted : Bool) → ProgramFile → List Entry → Setting
+program_setting is_painted file entries = record {
+  look = look_of is_painted file.lines;
+  origin = in_program file.name file.lines file.program.functions;
+  mems = file.program.known.mems;
+  reducers = file.program.known.reducers;
   lines = map (λ entry. entry.request.line) entries;
 }
 
-abbrev pub IsExplanation : (is_painted : Bool) → Extent → (file : List ℕ) → (source : List (List ℕ)) → Contents → List Entry → (text : List ℕ) → Type 0
-IsExplanation is_painted extent file source program entries text =
-    TellsEntries (program_setting is_painted file source program entries) extent entries text
+abbrev pub IsExplanation : (is_painted : Bool) → Extent → ProgramFile → List Entry → (text : List ℕ) → Type 0
+IsExplanation is_painted extent file entries text = TellsEntries (program_setting is_painted file entries) extent entries text
 
 -- the entries are those of a trace with these declarations and notes
 abbrev pub trace_setting : (is_painted : Bool) → Notes Global → Known → List Entry → Setting

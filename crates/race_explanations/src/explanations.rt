@@ -12,7 +12,7 @@ ghost use Rattle.trace_text.specs.Traces.{contents as trace_contents};
 ghost use Rattle.race_explanations.specs.Extents.{most_pairs, most_shown};
 ghost use Rattle.race_explanations.specs.Groups.{groups_text};
 ghost use Rattle.race_explanations.specs.Explained.{pairs_left_out, among, summary};
-ghost use Rattle.race_explanations.specs.Explained.{TellsEntries, IsExplanation, IsTraceExplanation};
+ghost use Rattle.race_explanations.specs.Explained.{TellsEntries, IsExplanation, IsTraceExplanation, program_file};
 
 use crate::account::Account;
 use crate::case::{Case, cases_of};
@@ -127,7 +127,7 @@ pub fn explanation<'s>(
     requires digest { (entries : List AnyEntry) × IsDigest entries digest.now }
     requires most { most_of digest.now ≡ most_pairs extent }
     ensures { IfOk result (λ told. (entries : List AnyEntry) → IsDigest entries digest.now →
-        IsExplanation is_painted extent file.now (lines text.now) (contents program.now) entries told.items) }
+        IsExplanation is_painted extent (program_file file.now (lines text.now) (contents program.now)) entries told.items) }
 {
     let source = Source::new(alloc, text)?;
     let scene = program_scene(is_painted, file, &source, program, digest);

@@ -6,7 +6,7 @@ ghost use Rattle.program_text.specs.Programs.{contents};
 ghost use Rattle.trace_text.specs.Traces.{contents as trace_contents};
 ghost use Rattle.race_pairs.specs.Digests.{IsDigest};
 ghost use Rattle.race_explanations.specs.Scenes.{setting_of};
-ghost use Rattle.race_explanations.specs.Explained.{program_setting, trace_setting};
+ghost use Rattle.race_explanations.specs.Explained.{program_file, program_setting, trace_setting};
 
 use crate::scene::{Origin, Scene};
 use program_text::Program;
@@ -25,7 +25,7 @@ pub fn program_scene<'s, 'a>(
     digest: &'s Digest,
 ) -> Scene<'s, 'a>
     ensures scene { (entries : List Entry) → IsDigest entries digest.now →
-        setting_of result ≡ program_setting is_painted file.now source.now (contents program.now) entries }
+        setting_of result ≡ program_setting is_painted (program_file file.now source.now (contents program.now)) entries }
     ensures digest { result.digest.now ≡ digest.now }
 {
     Scene {

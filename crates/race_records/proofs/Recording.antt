@@ -1,5 +1,5 @@
 -- What is told of the entries of a run or a trace.
-use Rattle.std.proofs.Common.{◌≡◌, ℕ, Option, suc, false, ◌+◌, ◌<◌, List, [], ◌++◌, length, take, drop, map, get_or, sym, subst, ap, ◌∙◌, append_assoc, arith}
+use Rattle.std.proofs.Common.{◌≡◌, ℕ, suc, false, ◌+◌, ◌<◌, List, [], ◌++◌, length, take, drop, map, get_or, sym, subst, ap, ◌∙◌, append_assoc, arith}
 use Rattle.std.proofs.lemmas.List.{drop_more}
 use Rattle.serde_json.specs.Data.{Data}
 use Rattle.model_histories.specs.declared.answer.Entry.{Entry}
@@ -7,7 +7,6 @@ use Rattle.race_pairs.specs.declared.race.Pair.{Pair}
 use Rattle.race_pairs.specs.declared.race.Race.{Race}
 use Rattle.race_pairs.specs.declared.groups.Group.{Group}
 use Rattle.race_pairs.specs.Groups.{AreGroups}
-use Rattle.program_text.specs.Drafts.{Contents}
 use Rattle.program_warnings.specs.declared.warning.Warning.{Warning}
 use Rattle.program_warnings.specs.Messages.{AreWarnings}
 use Rattle.race_explanations.specs.declared.case.Case.{Case}
@@ -15,15 +14,14 @@ use Rattle.race_explanations.specs.declared.extent.Extent.{Extent}
 use Rattle.race_explanations.specs.Extents.{most_pairs}
 use Rattle.race_explanations.specs.Cases.{AreCases}
 use Rattle.race_explanations.specs.Settings.{Setting}
-use Rattle.race_explanations.specs.Explained.{program_setting}
+use Rattle.race_explanations.specs.Explained.{ProgramFile, program_setting}
 use Rattle.race_pairs.specs.Pairs.{ArePairs}
-use Rattle.race_records.specs.declared.document.Outcome.{Outcome}
 use Rattle.race_records.specs.Values.{IsTextOf}
 use Rattle.race_records.specs.declared.form.RecordForm.{RecordForm}
 use Rattle.race_records.specs.Forms.{in_form}
 use Rattle.race_records.specs.Warned.{Warned, warned_of}
 use Rattle.race_records.specs.Races.{group_told, groups_told}
-use Rattle.race_records.specs.Documents.{SummaryParts, document_told, summary_of, RecordsEntries, RecordsRun}
+use Rattle.race_records.specs.Documents.{SummaryParts, EndParts, RunParts, document_told, summary_of, RecordsEntries, RecordsRun}
 
 -- Behind what is told of the groups before one, it and those behind it are told.
 pub group_more : (setting : Setting) (cases : List Case) (groups : List Group) (index : ℕ) (d : Group) (told new whole : List Data) → index < length groups →
@@ -38,14 +36,14 @@ group_more setting cases groups index d told new whole below before is =
     ap (λ (n : ℕ). new ++ groups_told setting cases (suc n) (drop (index + 1) groups)) (omega arith) ∙ ap (λ (t : List Data). t ++ behind) is ∙ append_assoc told one behind ∙ ap (λ (t : List Data). told ++ t) (sym step) ∙ before
 
 -- what is told of the entries
-pub entries_recorded : (form : RecordForm) (outcome : Outcome) (traces : ℕ) (extent : Extent) (setting : Setting) (entries : List Entry) (memory : Data) (runs : List (List ℕ))
-    (pairs : List Pair) (races : List Race) (cases : List Case) (groups : List Group) (values untold : List Data) (warned : Warned) (summary : SummaryParts) (value : Data)
+pub entries_recorded : (form : RecordForm) (extent : Extent) (setting : Setting) (entries : List Entry) (end : EndParts)
+    (pairs : List Pair) (races : List Race) (cases : List Case) (groups : List Group) (values untold : List Data) (summary : SummaryParts) (value : Data)
     (text : List ℕ) → ArePairs entries pairs → map (λ (race : Race). race.pair) races ≡ take (most_pairs extent) pairs →
     AreCases entries (map (λ (race : Race). race.pair) races) cases → AreGroups races groups → values ≡ groups_told setting cases 1 groups →
-    untold ≡ [] → summary ≡ summary_of outcome traces entries (length pairs) →
-    value ≡ document_told summary memory values runs untold warned → IsTextOf (in_form form value) text →
-    RecordsEntries form outcome traces extent setting entries memory runs warned text
-entries_recorded form outcome traces extent setting entries memory runs pairs races cases groups values untold warned summary value text are first of grouped values_are empty summary_is told is_text = record {
+    untold ≡ [] → summary ≡ summary_of end.outcome end.traces entries (length pairs) →
+    value ≡ document_told summary end.memory values end.recorded untold end.warned → IsTextOf (in_form form value) text →
+    RecordsEntries form extent setting entries end text
+entries_recorded form extent setting entries end pairs races cases groups values untold summary value text are first of grouped values_are empty summary_is told is_text = record {
   pairs = pairs;
   are_pairs = are;
   races = races;
@@ -55,19 +53,24 @@ entries_recorded form outcome traces extent setting entries memory runs pairs ra
   groups = groups;
   are_groups = grouped;
   is_text = subst (λ (v : Data). IsTextOf (in_form form v) text)
-      (told ∙ ap (λ (u : List Data). document_told summary memory values runs u warned) empty ∙ ap (λ (s : SummaryParts). document_told s memory values runs [] warned) summary_is ∙
-      ap (λ (v : List Data). document_told (summary_of outcome traces entries (length pairs)) memory v runs [] warned) values_are) is_text;
+      (told ∙ ap (λ (u : List Data). document_told summary end.memory values end.recorded u end.warned) empty ∙
+      ap (λ (s : SummaryParts). document_told s end.memory values end.recorded [] end.warned) summary_is ∙
+      ap (λ (v : List Data). document_told (summary_of end.outcome end.traces entries (length pairs)) end.memory v end.recorded [] end.warned) values_are) is_text;
 }
 
+-- how a run came out, with these notes and warnings
+abbrev ended : RunParts → (recorded : List (List ℕ)) → Warned → EndParts
+ended run recorded warned = record { outcome = run.outcome; traces = 0; memory = run.memory; recorded = recorded; warned = warned }
+
 -- what is told of a run, with the warnings of its program
-pub run_recorded : (form : RecordForm) (outcome : Outcome) (extent : Extent) (file : List ℕ) (source : List (List ℕ)) (program : Contents) (wraps : ℕ → Option ℕ) (entries : List Entry) (memory : Data)
-    (warnings : List Warning) (setting : Setting) (warned : Warned) (runs : List (List ℕ)) (text : List ℕ) → AreWarnings program wraps warnings →
-    setting ≡ program_setting false file source program entries → warned ≡ warned_of file source program warnings → runs ≡ [] →
-    RecordsEntries form outcome 0 extent setting entries memory runs warned text → RecordsRun form outcome extent file source program wraps entries memory text
-run_recorded form outcome extent file source program wraps entries memory warnings setting warned runs text are setting_is warned_is empty records = record {
+pub run_recorded : (form : RecordForm) (extent : Extent) (file : ProgramFile) (run : RunParts) (warnings : List Warning) (setting : Setting) (warned : Warned)
+    (runs : List (List ℕ)) (text : List ℕ) → AreWarnings file.program run.wraps warnings →
+    setting ≡ program_setting false file run.entries → warned ≡ warned_of file.name file.lines file.program warnings → runs ≡ [] →
+    RecordsEntries form extent setting run.entries (ended run runs warned) text → RecordsRun form extent file run text
+run_recorded form extent file run warnings setting warned runs text are setting_is warned_is empty records = record {
   warnings = warnings;
   are_warnings = are;
-  records = subst (λ (w : Warned). RecordsEntries form outcome 0 extent (program_setting false file source program entries) entries memory [] w text) warned_is
-      (subst (λ (r : List (List ℕ)). RecordsEntries form outcome 0 extent (program_setting false file source program entries) entries memory r warned text) empty
-      (subst (λ (s : Setting). RecordsEntries form outcome 0 extent s entries memory runs warned text) setting_is records));
+  records = subst (λ (w : Warned). RecordsEntries form extent (program_setting false file run.entries) run.entries (ended run [] w) text) warned_is
+      (subst (λ (r : List (List ℕ)). RecordsEntries form extent (program_setting false file run.entries) run.entries (ended run r warned) text) empty
+      (subst (λ (s : Setting). RecordsEntries form extent s run.entries (ended run runs warned) text) setting_is records));
 }

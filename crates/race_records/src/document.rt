@@ -9,15 +9,12 @@ ghost use Rattle.race_pairs.specs.Known.{known_count};
 ghost use Rattle.race_pairs.specs.Digests.{IsDigest, most_of};
 ghost use Rattle.program_text.specs.Programs.{contents};
 ghost use Rattle.trace_text.specs.Traces.{contents as trace_contents};
-ghost use Rattle.trace_notes.specs.Notes.{kept_runs};
-ghost use Rattle.serde_json.specs.Data.{null};
 ghost use Rattle.serde_json.specs.View.{view};
 ghost use Rattle.race_explanations.specs.Scenes.{setting_of};
-ghost use Rattle.race_explanations.specs.Explained.{trace_setting};
+ghost use Rattle.race_explanations.specs.Explained.{program_file, trace_setting};
 ghost use Rattle.race_explanations.specs.Extents.{most_pairs};
 ghost use Rattle.race_records.specs.Races.{case_told, told_at, places_told, group_told, groups_told};
-ghost use Rattle.race_records.specs.Documents.{document_told, summary_of, RecordsEntries, RecordsRun, outcome_word};
-ghost use Rattle.race_records.specs.Warned.{none_warned};
+ghost use Rattle.race_records.specs.Documents.{document_told, summary_of, end_of_trace, run_parts, RecordsEntries, RecordsRun, outcome_word};
 ghost use Rattle.race_records.specs.WarnedViews.{warned_parts};
 ghost use Rattle.race_records.specs.SummaryViews.{summary_parts};
 
@@ -210,7 +207,14 @@ fn entries_record(
     requires digest { (entries : List Entry) × IsDigest entries scene.now.digest.now }
     requires most { most_of scene.now.digest.now ≡ most_pairs extent }
     ensures { IfOk result (λ text. (entries : List Entry) → IsDigest entries scene.now.digest.now →
-        RecordsEntries form outcome traces extent (setting_of scene.now) entries (view memory) (map string_bytes recorded.now) (warned_parts warned.now) text.items) }
+        RecordsEntries form extent (setting_of scene.now) entries
+        (record {
+          outcome = outcome;
+          traces = traces;
+          memory = view memory;
+          recorded = map string_bytes recorded.now;
+          warned = warned_parts warned.now;
+        }) text.items) }
 {
     let cases = cases_of(alloc, scene.digest)?;
     let groups = group_races(alloc, scene.digest.races())?;
@@ -239,7 +243,8 @@ pub fn run_record<'s>(
     requires digest { (entries : List Entry) × IsDigest entries digest.now }
     requires most { most_of digest.now ≡ most_pairs extent }
     ensures { IfOk result (λ told. (entries : List Entry) → IsDigest entries digest.now →
-        RecordsRun form outcome extent file.now (lines text.now) (contents program.now) (get nat_cmp wraps.now) entries (view memory) told.items) }
+        RecordsRun form extent (program_file file.now (lines text.now) (contents program.now))
+        (run_parts entries (get nat_cmp wraps.now) outcome (view memory)) told.items) }
 {
     let source = Source::new(alloc, text)?;
     let scene = program_scene(false, file, &source, program, digest);
@@ -271,7 +276,8 @@ pub fn trace_record<'s>(
     requires digest { (entries : List Entry) × IsDigest entries digest.now }
     requires most { most_of digest.now ≡ most_pairs extent }
     ensures { IfOk result (λ told. (entries : List Entry) → IsDigest entries digest.now →
-        RecordsEntries form outcome 1 extent (trace_setting false notes.now (trace_contents trace.now).known entries) entries null (kept_runs notes.now) none_warned told.items) }
+        RecordsEntries form extent (trace_setting false notes.now (trace_contents trace.now).known entries) entries
+        (end_of_trace outcome notes.now) told.items) }
 {
     let scene = trace_scene(false, notes, trace, digest);
     entries_record(

@@ -12,7 +12,7 @@ use Rattle.race_records.specs.Values.{IsTextOf}
 use Rattle.race_records.specs.Forms.{in_form}
 use Rattle.race_records.specs.WarnedViews.{warned_parts}
 use Rattle.race_records.specs.Races.{groups_told}
-use Rattle.race_records.specs.Documents.{summary_of, RecordsEntries}
+use Rattle.race_records.specs.Documents.{EndParts, summary_of, RecordsEntries}
 use Rattle.race_records.specs.SummaryViews.{summary_parts}
 use Rattle.race_records.proofs.Recording.{entries_recorded}
 use Rattle.race_records.proofs.document.entries_record.Goals as goal
@@ -23,14 +23,20 @@ returns c =
     let setting = setting_of c.args.scene.now in
     let cases = c.in_ok-cases.cases.items in
     let groups = c.in_ok-groups.groups.items in
+    let end : EndParts = record {
+      outcome = c.args.outcome;
+      traces = c.args.traces;
+      memory = view c.args.memory;
+      recorded = map string_bytes c.args.recorded.now;
+      warned = warned_parts c.args.warned.now;
+    } in
     IfOk-weaker c.record_text.result (λ text. IsTextOf (in_form c.args.form (view c.in_ok-document.document)) text.items)
-    (λ text. (entries : List Entry) → IsDigest entries digest → RecordsEntries c.args.form c.args.outcome c.args.traces c.args.extent setting entries
-    (view c.args.memory) (map string_bytes c.args.recorded.now) (warned_parts c.args.warned.now) text.items)
+    (λ text. (entries : List Entry) → IsDigest entries digest → RecordsEntries c.args.form c.args.extent setting entries end text.items)
     (λ text is entries d.
     let kept = races_now entries digest d in
     let counted = knows_count digest.races.known kept.pairs kept.knows in
-    entries_recorded c.args.form c.args.outcome c.args.traces c.args.extent setting entries _ _ kept.pairs digest.races.list.items cases groups
-    _ (map view c.new-untold.result.items) (warned_parts c.args.warned.now) (summary_parts c.summary_of-summary.result) _ _ kept.are.are_pairs
+    entries_recorded c.args.form c.args.extent setting entries end kept.pairs digest.races.list.items cases groups
+    _ (map view c.new-untold.result.items) (summary_parts c.summary_of-summary.result) _ _ kept.are.are_pairs
     (kept.are.first ∙ ap (λ most. take most kept.pairs) c.requires.most)
     (c.in_ok-cases.ensures entries d)
     (subst (λ (some : List Race). AreGroups some groups) c.races.ensures c.in_ok-groups.ensures)
