@@ -5,4 +5,5 @@ pub mod Merging
 mod TraceAdding
 pub mod FindingTexts
 mod Named
+mod OrderedGroups
 mod FoundGrouping

@@ -9,6 +9,7 @@ pub mod Paths
 pub mod Advice
 pub mod Messages
 pub mod Groups
+pub mod SharedSyncs
 pub mod Leads
 pub mod FindingTexts
 pub mod FoundGroups

@@ -1,8 +1,13 @@
 //! What is told of races whose strands part at spawns on one line.
 
-ghost use Rattle.std.specs.Prelude.{◌≡◌, ◌++◌, None, false, IfOk, OnOk};
+ghost use Rattle.std.specs.Prelude.{◌≡◌, ◌++◌, List, None, false, IfOk, OnOk, IsTrue};
+ghost use Rattle.model_histories.specs.declared.answer.Entry.{Entry};
+ghost use Rattle.race_pairs.specs.declared.race.Pair.{Pair};
+ghost use Rattle.race_pairs.specs.Digests.{IsDigest};
 ghost use Rattle.race_explanations.specs.Accounts.{Adds};
 ghost use Rattle.race_explanations.specs.Scenes.{setting_of};
+ghost use Rattle.race_explanations.specs.Cases.{AreCases};
+ghost use Rattle.race_explanations.specs.SharedSyncs.{OneSyncOrders};
 ghost use Rattle.race_explanations.specs.Groups.{alone_at, alone_text, member_at, members_text, course_at, courses_of, before, nearer, first_among, is_ordered, has_round, leaves_open};
 ghost use Rattle.race_explanations.specs.Groups.{pairs_words, beside_text, first_text, rounds_text, is_sure, is_sure_of, is_sure_at, is_group_sure, sync_text, head_text, behind_text, many_text, text_at_line, group_text, groups_text};
 
@@ -229,14 +234,18 @@ fn is_sure_at(
     Ok(is_sure_of(scene, line, first, courses.as_slice()))
 }
 
-/// Whether the sync that is told of the races of a group orders them all. Errors where there is no memory.
+/// Whether the sync that is told of the races of a group orders them all: of each race whose strands part, an entry on the line that is told
+/// is one in place of which a sync orders them. Errors where there is no memory.
 pub fn is_group_sure(
     alloc: Global,
     scene: &Scene<'_, '_>,
     cases: &[Case<'_>],
     group: &Group,
 ) -> Result<bool, AllocError>
-    ensures { IfOk result (λ is_sure. is_sure ≡ is_group_sure (setting_of scene.now) cases.now group.now) }
+    ensures value { IfOk result (λ is_sure. is_sure ≡ is_group_sure (setting_of scene.now) cases.now group.now) }
+    ensures orders { IfOk result (λ is_sure. (entries : List Entry) (pairs : List Pair) → IsDigest entries scene.now.digest.now →
+        AreCases entries pairs cases.now → IsTrue is_sure →
+        OneSyncOrders (setting_of scene.now) entries cases.now group.now.places.items) }
 {
     match group.spawn {
         Some(line) => is_sure_at(alloc, scene, cases, line, group.places.as_slice()),

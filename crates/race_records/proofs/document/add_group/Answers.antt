@@ -9,4 +9,4 @@ pub returns : goal.returns
 returns c =
     on_ok_weaker c.add_places.result
     (λ is. is ∙ ap₂ (λ sure places. map view c.args.values.now.items ++ places_told (setting_of c.args.scene.now) c.args.cases.now c.args.number sure places)
-    c.in_ok-is_sure.ensures c.as_slice-places.ensures.value) c.add_places.ensures
+    c.in_ok-is_sure.ensures.value c.as_slice-places.ensures.value) c.add_places.ensures
