@@ -6,4 +6,6 @@ mod TraceAdding
 pub mod FindingTexts
 mod Named
 mod OrderedGroups
+mod OrderedFindings
+mod FoundLeads
 mod FoundGrouping

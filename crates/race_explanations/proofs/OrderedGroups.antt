@@ -38,7 +38,7 @@ module _ (told : List Entry) (legal : (shape : Shape) × IsLegal shape (reverse 
       (parts, subst (GoesOn told pair (Some p)) whole goes, spawn_numbered told legal pair p e.onward parts goes)
 
   -- where the spawner goes on for the first is a place to sync for the other
-  place_on_line : (pair other : Pair) (e f : Encounter) (p q : Parting) → IsEncounter told pair e → IsEncounter told other f → e.parting ≡ Some p →
+  pub place_on_line : (pair other : Pair) (e f : Encounter) (p q : Parting) → IsEncounter told pair e → IsEncounter told other f → e.parting ≡ Some p →
       f.parting ≡ Some q → p.entry ≡ q.entry → onward_of e ≤ onward_of f → HasPlaceOnLine told (line_in lines (onward_of e)) q
   place_on_line pair other e f p q is other_is at other_at same le =
       let here = parts_at pair e p is at in
@@ -46,6 +46,23 @@ module _ (told : List Entry) (legal : (shape : Shape) × IsLegal shape (reverse 
       let place : IsPlaceToSync (reverse told) q (onward_of e) =
       orders_both told legal pair other p q (onward_of e) (onward_of f) here.0 here.1 there.0 there.1 same le in
       (onward_of e, place, sym (ap (λ (all : List ℕ). line_in all (onward_of e)) lines_are ∙ line_of_place told q (onward_of e) place))
+
+  -- the same where their spawns have one number, which is 0 where there is none
+  pub place_behind : (pair other : Pair) (e f : Encounter) (q : Parting) → IsEncounter told pair e → IsEncounter told other f → f.parting ≡ Some q →
+      spawn_of e ≡ spawn_of f → onward_of e ≤ onward_of f → HasPlaceOnLine told (line_in lines (onward_of e)) q
+  place_behind pair other e f q is other_is at same le = by e.parting refl
+    where
+      spawn_at : q.entry ≡ spawn_of e
+      spawn_at = ap (λ (o : Option Parting). unwrap_or (option_map (λ (p : Parting). p.entry) o) 0) (sym at) ∙ sym same
+
+      by : (parting : Option Parting) → e.parting ≡ parting → HasPlaceOnLine told (line_in lines (onward_of e)) q
+      by None nowhere_parts =
+          let nowhere : spawn_of e ≡ 0 = ap (λ (o : Option Parting). unwrap_or (option_map (λ (p : Parting). p.entry) o) 0) nowhere_parts in
+          let numbered = (parts_at other f q other_is at).2 in absurd (omega (arith, spawn_at, nowhere, numbered))
+      by (Some p) some =
+          let entry_is : p.entry ≡ q.entry =
+          sym (spawn_at ∙ ap (λ (o : Option Parting). unwrap_or (option_map (λ (p : Parting). p.entry) o) 0) some) in
+          place_on_line pair other e f p q is other_is some at entry_is le
 
 -- The cases.
 
@@ -66,7 +83,7 @@ case_at entries (more {cases = cases} pair one are is) place case at = elim (at_
 
 -- Bools.
 
-not_open : (found ordered : Bool) → (found || not ordered) ≡ false → (found ≡ false) × (ordered ≡ true)
+pub not_open : (found ordered : Bool) → (found || not ordered) ≡ false → (found ≡ false) × (ordered ≡ true)
 not_open false true e = (refl, refl)
 not_open false false e = cc
 not_open true true e = cc
@@ -88,7 +105,7 @@ either_some : (P : Course → Type 0) (test : Bool) (best : Option Course) (othe
 either_some P true best other h k = h
 either_some P false best other h k = k
 
-not_found : (found : Bool) → not found ≡ true → found ≡ false
+pub not_found : (found : Bool) → not found ≡ true → found ≡ false
 not_found false e = refl
 not_found true e = cc
 
@@ -145,28 +162,11 @@ module _ (setting : Setting) (cases : List Case) where
     -- the one that is behind the first one at its spawn
     behind_first : (first : Course) → IsCourse first → (pair : Pair) (e : Encounter) (q : Parting) → IsEncounter told pair e → e.parting ≡ Some q →
         spawn_of e ≡ first.spawn → first.onward ≤ onward_of e → HasPlaceOnLine told first.line q
-    behind_first first (place, case, at, course) pair e q is parts same le = by case.encounter.parting refl
-      where
-        own : (pair : Pair) × IsEncounter told pair case.encounter
-        own = case_at told are place case at
-
-        spawn_at : q.entry ≡ spawn_of case.encounter
-        spawn_at =
-            ap (λ (o : Option Parting). unwrap_or (option_map (λ (p : Parting). p.entry) o) 0) (sym parts) ∙
-            (same ∙ sym (ap (λ (c : Course). c.spawn) course))
-
-        early : onward_of case.encounter ≤ onward_of e
-        early = subst (λ (n : ℕ). n ≤ onward_of e) (sym (ap (λ (c : Course). c.onward) course)) le
-
-        by : (parting : Option Parting) → case.encounter.parting ≡ parting → HasPlaceOnLine told first.line q
-        by None nowhere_parts =
-            let nowhere : spawn_of case.encounter ≡ 0 = ap (λ (o : Option Parting). unwrap_or (option_map (λ (p : Parting). p.entry) o) 0) nowhere_parts in
-            let numbered = (parts_at told legal setting.lines lines_are pair e q is parts).2 in absurd (omega (arith, spawn_at, nowhere, numbered))
-        by (Some p) some =
-            let entry_is : p.entry ≡ q.entry =
-            sym (spawn_at ∙ ap (λ (o : Option Parting). unwrap_or (option_map (λ (p : Parting). p.entry) o) 0) some) in
-            subst (λ (line : ℕ). HasPlaceOnLine told line q) (ap (λ (c : Course). c.line) course)
-            (place_on_line told legal setting.lines lines_are own.0 pair case.encounter e p q own.1 is some parts entry_is early)
+    behind_first first (place, case, at, course) pair e q is parts same le =
+        let own = case_at told are place case at in
+        subst (λ (line : ℕ). HasPlaceOnLine told line q) (ap (λ (c : Course). c.line) course)
+        (place_behind told legal setting.lines lines_are own.0 pair case.encounter e q own.1 is parts (ap (λ (c : Course). c.spawn) course ∙ sym same)
+        (subst (λ (n : ℕ). n ≤ onward_of e) (sym (ap (λ (c : Course). c.onward) course)) le))
 
     ordered_case : (first : Course) → IsCourse first → (pair : Pair) (e : Encounter) (q : Parting) → IsEncounter told pair e → e.parting ≡ Some q →
         is_ordered first (course_of setting e) ≡ true → HasPlaceOnLine told first.line q

@@ -15,4 +15,5 @@ pub mod FindingTexts
 pub mod FoundGroups
 pub mod Explained
 pub mod Findings
+pub mod FoundSyncs
 pub mod Illegal

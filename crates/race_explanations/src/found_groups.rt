@@ -1,11 +1,14 @@
 //! Findings of several traces, told together where they part at one spawn.
 
-ghost use Rattle.std.specs.Prelude.{◌≡◌, ◌++◌, ℕ, None, map, false, IfOk, OnOk};
+ghost use Rattle.std.specs.Prelude.{◌≡◌, ◌++◌, ℕ, List, None, map, false, IfOk, OnOk, IsTrue};
 ghost use Rattle.std.specs.Global.{Vec as AnyVec};
 ghost use Rattle.std.specs.Option.{option_map};
+ghost use Rattle.model_histories.specs.declared.answer.Entry.{Entry};
+ghost use Rattle.race_explanations.specs.Settings.{Setting};
 ghost use Rattle.race_explanations.specs.FoundGroups.{lead_at, is_one_spawn, are_of_one_spawn, is_joined, joined_at, group_from, group_at, groups_of};
 ghost use Rattle.race_explanations.specs.FoundGroups.{line_of_lead, before_place, nearer_lead, nearer_place, first_place, is_behind, is_ordered_behind, is_ordered_place};
 ghost use Rattle.race_explanations.specs.FoundGroups.{leaves_open_place, is_round_lead, round_at, round_place, is_within_lead, is_sure_first, are_sure};
+ghost use Rattle.race_explanations.specs.FoundSyncs.{AreFoundIn, OneSyncOrdersFound};
 
 use crate::finding::Finding;
 use crate::lead::Lead;
@@ -273,9 +276,12 @@ pub(crate) fn is_sure_first(findings: &[Finding], first: Option<usize>, places: 
     }
 }
 
-/// Whether the sync that is told of the findings of a group orders them all.
+/// Whether the sync that is told of the findings of a group orders them all: of each whose strands part, in its trace, an entry at a place
+/// that is told so is one in place of which a sync orders them.
 pub fn are_sure(findings: &[Finding], places: &[usize]) -> bool
-    ensures { result ≡ are_sure findings.now places.now }
+    ensures value { result ≡ are_sure findings.now places.now }
+    ensures orders { (settings : ℕ → Setting) (traces : ℕ → List Entry) → AreFoundIn settings traces findings.now → IsTrue result →
+        OneSyncOrdersFound settings traces findings.now places.now }
 {
     is_sure_first(findings, first_place(findings, places), places)
 }

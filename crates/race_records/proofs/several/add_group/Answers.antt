@@ -9,4 +9,4 @@ pub returns : goal.returns
 returns c =
     on_ok_weaker c.add_places.result
     (λ is. is ∙ ap (λ sure. map view c.args.values.now.items ++ found_places c.args.findings.now (map race_parts c.args.races.now) c.args.group sure c.args.places.now)
-    c.are_sure-is_sure.ensures) c.add_places.ensures
+    c.are_sure-is_sure.ensures.value) c.add_places.ensures
