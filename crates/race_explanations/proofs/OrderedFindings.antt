@@ -69,14 +69,14 @@ module _ (settings : ℕ → Setting) (traces : ℕ → List Entry) where
       (place_behind (traces other.trace) is.is_trace.legal (settings other.trace).lines is.is_trace.lines_are one.pair is.pair one.encounter is.encounter q
       there.0 is.is_encounter parts (sym first_spawn ∙ (sym same_spawn ∙ other_spawn)) (omega (arith, late, first_onward, other_onward)))
 
-  ordered_lead : (first other : Lead) → IsLeadIn settings traces first → IsLeadIn settings traces other → is_ordered_behind (Some first) (Some other) ≡ true →
+  ordered_lead : (first other : Lead) → IsLeadIn settings traces first → is_ordered_behind (Some first) (Some other) ≡ true →
       IsOrderedAs settings traces first.onward.items other
-  ordered_lead first other one is ordered = (is, by is.encounter.parting refl)
+  ordered_lead first other one ordered = λ is. by is is.encounter.parting refl
     where
-      by : (parting : Option Parting) → is.encounter.parting ≡ parting →
+      by : (is : IsLeadIn settings traces other) (parting : Option Parting) → is.encounter.parting ≡ parting →
           IfSome parting (HasPlaceToldAs (settings other.trace) (traces other.trace) first.onward.items)
-      by None e = tt
-      by (Some q) e = elim (or_cases (bytes_eq other.onward.items first.onward.items) (is_behind first other) ordered) [
+      by is None e = tt
+      by is (Some q) e = elim (or_cases (bytes_eq other.onward.items first.onward.items) (is_behind first other) ordered) [
         | inl same ↦ alike other is first.onward.items ((bytes_eq-Decides other.onward.items first.onward.items).0 same) q e
         | inr after ↦ behind first other one is after q e
       ]
@@ -107,7 +107,7 @@ module _ (settings : ℕ → Setting) (traces : ℕ → List Entry) where
         by : (other : Option Lead) → lead_at findings place ≡ other → is_ordered_behind (Some first) other ≡ true →
             IfSome other (IsOrderedAs settings traces first.onward.items)
         by None e o = tt
-        by (Some other) e o = ordered_lead first other one (lead_in place other e) o
+        by (Some other) e o = ordered_lead first other one o
 
     all_places : (head : ℕ) (first : Lead) → lead_at findings head ≡ Some first → (places : List ℕ) →
         All (λ place. is_ordered_place findings head place ≡ true) places → All (IsOrderedPlace settings traces first.onward.items findings) places

@@ -44,10 +44,10 @@ abbrev pub HasPlaceToldAs : Setting → List Entry → (place : List ℕ) → Pa
 HasPlaceToldAs setting entries told parting =
     (number : ℕ) × (place : IsPlaceToSync (reverse entries) parting number) × (line_words setting.origin place.entry.request.line ≡ told)
 
--- the same of the pair of a lead, where its two strands part
+-- the same of each pair that has the lead, where its two strands part
 abbrev pub IsOrderedAs : (settings : ℕ → Setting) → (traces : ℕ → List Entry) → (place : List ℕ) → Lead → Type 0
 IsOrderedAs settings traces told lead =
-    (is : IsLeadIn settings traces lead) × IfSome is.encounter.parting (HasPlaceToldAs (settings lead.trace) (traces lead.trace) told)
+    (is : IsLeadIn settings traces lead) → IfSome is.encounter.parting (HasPlaceToldAs (settings lead.trace) (traces lead.trace) told)
 
 abbrev pub IsOrderedPlace : (settings : ℕ → Setting) → (traces : ℕ → List Entry) → (place : List ℕ) → List Finding → ℕ → Type 0
 IsOrderedPlace settings traces told findings place = IfSome (lead_at findings place) (IsOrderedAs settings traces told)
