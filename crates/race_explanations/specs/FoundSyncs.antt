@@ -1,4 +1,4 @@
--- One sync that orders each finding of a group, each in its own trace.
+-- One place, before which a sync orders each finding of a group, each in its own trace.
 use Rattle.std.specs.Prelude.{ℕ, ◌≡◌, List, map, reverse, Some, None, IfSome, option_and_then}
 use Rattle.std.specs.List.{All}
 use Rattle.model_histories.specs.declared.answer.Entry.{Entry}
@@ -52,7 +52,7 @@ IsOrderedAs settings traces told lead =
 abbrev pub IsOrderedPlace : (settings : ℕ → Setting) → (traces : ℕ → List Entry) → (place : List ℕ) → List Finding → ℕ → Type 0
 IsOrderedPlace settings traces told findings place = IfSome (lead_at findings place) (IsOrderedAs settings traces told)
 
--- A sync before the place that is told, which is that of the first one, orders each of them.
+-- Each of them has an entry where a sync orders it, at the place before which a sync is told, that of the first one.
 abbrev pub OneSyncOrdersFound : (settings : ℕ → Setting) → (traces : ℕ → List Entry) → List Finding → (places : List ℕ) → Type 0
 OneSyncOrdersFound settings traces findings places =
     (first : Lead) × (option_and_then (lead_at findings) (first_place findings None places) ≡ Some first) ×

@@ -1,4 +1,4 @@
--- One sync that orders each race of a group.
+-- One line, before which a sync orders each race of a group.
 use Rattle.std.specs.Prelude.{ℕ, ◌≡◌, List, reverse, Option, Some, None, IfSome, slice_get}
 use Rattle.std.specs.Option.{option_map}
 use Rattle.std.specs.List.{All}
@@ -23,7 +23,7 @@ IsOrderedOnLine entries line cases place =
 abbrev pub sync_line : Setting → List Case → (places : List ℕ) → Option ℕ
 sync_line setting cases places = option_map (λ first. first.line) (first_among None (courses_of setting cases places))
 
--- a sync before that line orders each of them
+-- each of them has an entry on that line where a sync orders it
 abbrev pub OneSyncOrders : Setting → List Entry → List Case → (places : List ℕ) → Type 0
 OneSyncOrders setting entries cases places =
     (line : ℕ) × (sync_line setting cases places ≡ Some line) × All (IsOrderedOnLine entries line cases) places

@@ -5,7 +5,7 @@
 //! of their first refusals, with what a witness of the refusal is and the spawn where its strand and the refused one part, as the crate
 //! `race_pairs` defines these; that pairs which part at spawns on one line are told together; and the text is a function of these values,
 //! letter by letter, in `specs/`.
-//! Where [`is_group_sure`] or [`are_sure`] answer true, one sync orders each pair of a group.
+//! Where [`is_group_sure`] or [`are_sure`] answers true, each pair of a group has an entry on the line that is told where a sync orders it.
 //! [`illegal_explanation`] tells why a request of a trace is illegal, by a reason that [`find_illegality`] finds in the history before it.
 #![tactic(auto)]
 
