@@ -1,15 +1,13 @@
 -- The traces in several files, one after another.
-use Rattle.std.proofs.Common.{◌≡◌, ℕ, ◌+◌, ◌<◌, Bool, Option, Some, None, List, [], ◌∷◌, ◌++◌, length, take, drop, map, get_or, inr, sym, ap, subst, ◌∙◌}
+use Rattle.std.proofs.Common.{◌≡◌, ℕ, ◌+◌, ◌<◌, Option, Some, None, List, [], ◌∷◌, ◌++◌, length, take, drop, map, get_or, inr, sym, ap, subst, ◌∙◌}
 use Rattle.std.specs.Global.{Vec}
 use Rattle.std.proofs.lemmas.List.{take_more, drop_more, take-append-drop, map-append}
 use Rattle.command_streams.specs.declared.fault.CliFault.{CliFault}
 use Rattle.command_streams.specs.declared.fault.CliFault.TheVariants.{Read, Memory}
 use Rattle.command_streams.specs.Readings.{reading}
 use Rattle.command_streams.specs.Streams.{IsRead}
-use Rattle.race_explanations.specs.declared.extent.Extent.{Extent}
-use Rattle.tool_commands.specs.declared.explain.Rendering.{Rendering}
 use Rattle.tool_commands.specs.Together.{Together, TakesReading, StopsTaking}
-use Rattle.tool_commands.specs.Several.{manner_in, AreTaken, more, TellsSeveral, StopsSeveral}
+use Rattle.tool_commands.specs.Several.{Style, manner_in, AreTaken, more, TellsSeveral, StopsSeveral}
 use Rattle.tool_commands.specs.Performed.{lacks_first}
 
 names_at : {X : Type 0} (name : X → List ℕ) (items : List X) (index : ℕ) (one : X) (file : List ℕ) → index < length items → one ≡ get_or items index one → file ≡ name one →
@@ -27,21 +25,21 @@ names_so_far name items index one file below read called =
     ap (map name) (ap (λ x. take index items ++ x ∷ []) read ∙ sym (take_more items index one below))
 
 -- a file more, whose text means a trace
-pub taken_more : {X : Type 0} (name : X → List ℕ) (items : List X) (index : ℕ) (one : X) (file : List ℕ) (is_painted : Bool) (extent : Extent) (rendering : Rendering) (files now : List ℕ → Option (List ℕ))
+pub taken_more : {X : Type 0} (name : X → List ℕ) (items : List X) (index : ℕ) (one : X) (file : List ℕ) (style : Style) (files now : List ℕ → Option (List ℕ))
     (behind : Option (List ℕ)) (old new : Together) → index < length items → one ≡ get_or items index one → file ≡ name one → now ≡ files →
-    AreTaken is_painted extent rendering files (map name (take index items)) old → TakesReading (manner_in is_painted extent rendering file) (reading (now file) behind) old new None →
-    AreTaken is_painted extent rendering files (map name (take (index + 1) items)) new
-taken_more name items index one file is_painted extent rendering files now behind old new below read called same before takes =
-    subst (λ (names : List (List ℕ)). AreTaken is_painted extent rendering files names new) (names_so_far name items index one file below read called)
+    AreTaken style files (map name (take index items)) old → TakesReading (manner_in style file) (reading (now file) behind) old new None →
+    AreTaken style files (map name (take (index + 1) items)) new
+taken_more name items index one file style files now behind old new below read called same before takes =
+    subst (λ (names : List (List ℕ)). AreTaken style files names new) (names_so_far name items index one file below read called)
     (more new file takes.text behind before
     (subst (λ (f : List ℕ → Option (List ℕ)). IsRead (f file) behind takes.text) same takes.read) takes.takes)
 
 -- a file whose text means no trace
-pub faulty_at : {X : Type 0} (name : X → List ℕ) (items : List X) (index : ℕ) (one : X) (file : List ℕ) (is_painted : Bool) (extent : Extent) (rendering : Rendering) (files now : List ℕ → Option (List ℕ))
+pub faulty_at : {X : Type 0} (name : X → List ℕ) (items : List X) (index : ℕ) (one : X) (file : List ℕ) (style : Style) (files now : List ℕ → Option (List ℕ))
     (behind : Option (List ℕ)) (old new : Together) (told : Vec ℕ) → index < length items → one ≡ get_or items index one → file ≡ name one → now ≡ files →
-    AreTaken is_painted extent rendering files (map name (take index items)) old → TakesReading (manner_in is_painted extent rendering file) (reading (now file) behind) old new (Some told) →
-    TellsSeveral is_painted extent rendering files (map name items) told.items 2
-faulty_at name items index one file is_painted extent rendering files now behind old new told below read called same before takes = inr (record {
+    AreTaken style files (map name (take index items)) old → TakesReading (manner_in style file) (reading (now file) behind) old new (Some told) →
+    TellsSeveral style files (map name items) told.items 2
+faulty_at name items index one file style files now behind old new told below read called same before takes = inr (record {
   earlier = map name (take index items);
   name = file;
   later = map name (drop (index + 1) items);
@@ -54,12 +52,12 @@ faulty_at name items index one file is_painted extent rendering files now behind
   tells = takes.takes;
 })
 
-stops_now : {X : Type 0} (name : X → List ℕ) (items : List X) (index : ℕ) (one : X) (file : List ℕ) (is_painted : Bool) (extent : Extent) (rendering : Rendering) (files : List ℕ → Option (List ℕ))
+stops_now : {X : Type 0} (name : X → List ℕ) (items : List X) (index : ℕ) (one : X) (file : List ℕ) (style : Style) (files : List ℕ → Option (List ℕ))
     (behind : Option (List ℕ)) (old : Together) (fault : CliFault) → index < length items → one ≡ get_or items index one → file ≡ name one →
-    AreTaken is_painted extent rendering files (map name (take index items)) old → StopsTaking (reading (files file) behind) fault → StopsSeveral is_painted extent rendering files (map name items) fault
-stops_now name items index one file is_painted extent rendering files behind old Read below read called before stops = tt
-stops_now name items index one file is_painted extent rendering files behind old Memory below read called before stops = tt
-stops_now name items index one file is_painted extent rendering files behind old fault below read called before stops = record {
+    AreTaken style files (map name (take index items)) old → StopsTaking (reading (files file) behind) fault → StopsSeveral style files (map name items) fault
+stops_now name items index one file style files behind old Read below read called before stops = tt
+stops_now name items index one file style files behind old Memory below read called before stops = tt
+stops_now name items index one file style files behind old fault below read called before stops = record {
   earlier = map name (take index items);
   name = file;
   later = map name (drop (index + 1) items);
@@ -71,11 +69,11 @@ stops_now name items index one file is_painted extent rendering files behind old
 }
 
 -- a file that is not taken
-pub stops_at : {X : Type 0} (name : X → List ℕ) (items : List X) (index : ℕ) (one : X) (file : List ℕ) (is_painted : Bool) (extent : Extent) (rendering : Rendering) (files now : List ℕ → Option (List ℕ))
+pub stops_at : {X : Type 0} (name : X → List ℕ) (items : List X) (index : ℕ) (one : X) (file : List ℕ) (style : Style) (files now : List ℕ → Option (List ℕ))
     (behind : Option (List ℕ)) (old : Together) (fault : CliFault) → index < length items → one ≡ get_or items index one → file ≡ name one → now ≡ files →
-    AreTaken is_painted extent rendering files (map name (take index items)) old → StopsTaking (reading (now file) behind) fault → StopsSeveral is_painted extent rendering files (map name items) fault
-stops_at name items index one file is_painted extent rendering files now behind old fault below read called same before stops =
-    stops_now name items index one file is_painted extent rendering files behind old fault below read called before
+    AreTaken style files (map name (take index items)) old → StopsTaking (reading (now file) behind) fault → StopsSeveral style files (map name items) fault
+stops_at name items index one file style files now behind old fault below read called same before stops =
+    stops_now name items index one file style files behind old fault below read called before
     (subst (λ (f : List ℕ → Option (List ℕ)). StopsTaking (reading (f file) behind) fault) same stops)
 
 lacks_here : (lacks : List ℕ → Type 0) (names : List (List ℕ)) (file : List ℕ) (later : List (List ℕ)) → (lacks_first lacks names → ⊥) →

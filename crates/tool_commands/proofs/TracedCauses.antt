@@ -7,7 +7,7 @@ use Rattle.command_streams.specs.Readings.{Reading, reading}
 use Rattle.command_streams.specs.Streams.{StopsWriting}
 use Rattle.program_text.specs.Drafts.{Contents}
 use Rattle.tool_commands.specs.Runs.{run_line, IsRunFault, IsProgramRead, IsRan}
-use Rattle.tool_commands.specs.Traced.{TellsTraced, IsReadTraced, IsTraced, IsReportCut, StopsRun, StopsTelling, HasTracedCause}
+use Rattle.tool_commands.specs.Traced.{Writing, writing, TellsTraced, IsReadTraced, IsTraced, IsReportCut, StopsRun, StopsTelling, HasTracedCause}
 use Rattle.tool_commands.specs.Traced.{TellsTrace, IsTraceWritten, HasTraceCause}
 use Rattle.model_histories.specs.declared.answer.Entry.{Entry}
 use Rattle.model_histories.specs.Shapes.{most_entries}
@@ -26,14 +26,14 @@ use Rattle.tool_commands.proofs.RunCauses.{ran_status}
 
 -- there is no run to be told
 pub no_run_cause : (reader : Reading) (traced traces wrote writes : Option (List ℕ)) (limit : ℕ) (fault : CliFault) → StopsRun reader limit fault →
-    HasTracedCause reader traced traces wrote writes limit fault
+    HasTracedCause reader (writing traced traces) (writing wrote writes) limit fault
 no_run_cause reader traced traces wrote writes limit Write stops = absurd stops.stops
 no_run_cause reader traced traces wrote writes limit Unwritten stops = absurd stops.stops
 no_run_cause reader traced traces wrote writes limit fault stops = stops
 
 -- what is told of a run could not be written
 pub telling_cause : (reader : Reading) (traced traces wrote writes : Option (List ℕ)) (limit : ℕ) (line trace : List ℕ) (status : ℕ) (fault : CliFault) →
-    IsReadTraced reader limit line trace status → StopsTelling traced traces wrote writes trace line fault → HasTracedCause reader traced traces wrote writes limit fault
+    IsReadTraced reader limit line trace status → StopsTelling (writing traced traces) (writing wrote writes) trace line fault → HasTracedCause reader (writing traced traces) (writing wrote writes) limit fault
 telling_cause reader traced traces wrote writes limit line trace status Unwritten told stops = record {
   line = line;
   trace = trace;
@@ -58,7 +58,7 @@ telling_cause reader traced traces wrote writes limit line trace status Write to
 telling_cause reader traced traces wrote writes limit line trace status fault told stops = absurd stops
 
 -- a writer has failed then
-pub telling_writes : (traced traces wrote writes : Option (List ℕ)) (trace line : List ℕ) (fault : CliFault) → StopsTelling traced traces wrote writes trace line fault →
+pub telling_writes : (traced traces wrote writes : Option (List ℕ)) (trace line : List ℕ) (fault : CliFault) → StopsTelling (writing traced traces) (writing wrote writes) trace line fault →
     fault ≢ Unwritten → fault ≢ Write → ⊥
 telling_writes traced traces wrote writes trace line Unwritten stops no_trace no_write = no_trace refl
 telling_writes traced traces wrote writes trace line Write stops no_trace no_write = no_write refl
@@ -67,7 +67,7 @@ telling_writes traced traces wrote writes trace line fault stops no_trace no_wri
 -- what is told of a run was written
 pub told_written : (reader : Reading) (traced traces wrote writes : Option (List ℕ)) (limit : ℕ) (line trace : List ℕ) (told_status : ℕ) (result : Result ℕ CliFault) →
     IsReadTraced reader limit line trace told_status → IfOk result (λ status. status ≡ told_status) → OnOk result (Appends traced traces trace) →
-    OnOk result (Appends wrote writes line) → IfOk result (IsTraced reader traced traces wrote writes limit)
+    OnOk result (Appends wrote writes line) → IfOk result (IsTraced reader (writing traced traces) (writing wrote writes) limit)
 told_written reader traced traces wrote writes limit line trace told_status (Ok status) told is kept written = record {
   line = line;
   trace = trace;
@@ -78,7 +78,7 @@ told_written reader traced traces wrote writes limit line trace told_status (Ok 
 told_written reader traced traces wrote writes limit line trace told_status (Err fault) told is kept written = tt
 
 -- the report is that of a run
-pub traced_ran : (reader : Reading) (traced traces wrote writes : Option (List ℕ)) (limit status : ℕ) → IsTraced reader traced traces wrote writes limit status →
+pub traced_ran : (reader : Reading) (traced traces wrote writes : Option (List ℕ)) (limit status : ℕ) → IsTraced reader (writing traced traces) (writing wrote writes) limit status →
     IsRan reader wrote writes limit status
 traced_ran reader traced traces wrote writes limit status done = record {
   program = done.told.program;
@@ -91,14 +91,14 @@ traced_ran reader traced traces wrote writes limit status done = record {
 -- ---- a run that is recorded, of the program that a source holds
 
 abbrev RecordCause : (source wrote writes : Option (List ℕ)) → (limit : ℕ) → CliFault → Type 0
-RecordCause source wrote writes limit fault = (behind : Option (List ℕ)) × (traced : Option (List ℕ)) × (traces : Option (List ℕ)) ×
-    HasTracedCause (reading source behind) traced traces wrote writes limit fault
+RecordCause source wrote writes limit fault = (behind : Option (List ℕ)) × (traces : Writing) ×
+    HasTracedCause (reading source behind) traces (writing wrote writes) limit fault
 
 -- there is no run
 pub not_run : (source held behind wrote writes : Option (List ℕ)) (limit : ℕ) (fault : CliFault) → StopsRun (reading held behind) limit fault → held ≡ source →
     RecordCause source wrote writes limit fault
 not_run source held behind wrote writes limit fault stops is =
-    (behind, None, None, no_run_cause (reading source behind) None None wrote writes limit fault (subst (λ (s : Option (List ℕ)). StopsRun (reading s behind) limit fault) is stops))
+    (behind, writing None None, no_run_cause (reading source behind) None None wrote writes limit fault (subst (λ (s : Option (List ℕ)). StopsRun (reading s behind) limit fault) is stops))
 
 module _ (source held behind : Option (List ℕ)) (limit : ℕ) (line trace : List ℕ) (status : ℕ) (told : IsReadTraced (reading held behind) limit line trace status) (is : held ≡ source) where
   told_of : IsReadTraced (reading source behind) limit line trace status
@@ -108,13 +108,13 @@ module _ (source held behind : Option (List ℕ)) (limit : ℕ) (line trace : Li
   pub not_created : (wrote writes : Option (List ℕ)) (fault : CliFault) → fault ≡ Unwritten → RecordCause source wrote writes limit fault
   not_created wrote writes fault named =
       subst (λ (f : CliFault). RecordCause source wrote writes limit f) (sym named)
-      (behind, None, None, record { line = line; trace = trace; status = status; part = []; rest = trace; told = told_of; kept = tt; prefix = refl })
+      (behind, writing None None, record { line = line; trace = trace; status = status; part = []; rest = trace; told = told_of; kept = tt; prefix = refl })
 
   -- what is told could not be written
-  pub not_written : (traced traces wrote writes : Option (List ℕ)) (fault : CliFault) → StopsTelling traced traces wrote writes trace line fault →
+  pub not_written : (traced traces wrote writes : Option (List ℕ)) (fault : CliFault) → StopsTelling (writing traced traces) (writing wrote writes) trace line fault →
       RecordCause source wrote writes limit fault
   not_written traced traces wrote writes fault stops =
-      (behind, traced, traces, telling_cause (reading source behind) traced traces wrote writes limit line trace status fault told_of stops)
+      (behind, writing traced traces, telling_cause (reading source behind) traced traces wrote writes limit line trace status fault told_of stops)
 
   -- the report was written
   pub recorded_ran : (traced traces wrote writes : Option (List ℕ)) (result : Result ℕ CliFault) → IfOk result (λ ended. ended ≡ status) →
@@ -130,7 +130,7 @@ module _ (source held behind : Option (List ℕ)) (limit : ℕ) (line trace : Li
   -- and the trace, to a file that held `blank` and holds `made`
   pub recorded_kept : (traced traces blank made wrote writes : Option (List ℕ)) (result : Result ℕ CliFault) → IfOk result (λ ended. ended ≡ status) →
       OnOk result (Appends traced traces trace) → OnOk result (Appends wrote writes line) → traced ≡ blank → made ≡ traces →
-      IfOk result (λ ended. (behind : Option (List ℕ)) × IsTraced (reading source behind) blank made wrote writes limit ended)
+      IfOk result (λ ended. (behind : Option (List ℕ)) × IsTraced (reading source behind) (writing blank made) (writing wrote writes) limit ended)
   recorded_kept traced traces blank made wrote writes (Ok ended) ends kept written begun left = (
     behind,
     told_written (reading source behind) blank made wrote writes limit line trace status (Ok ended) told_of ends
@@ -140,15 +140,15 @@ module _ (source held behind : Option (List ℕ)) (limit : ℕ) (line trace : Li
 
   -- also where only a part of the report was
   pub recorded_first : (traced traces blank made wrote writes : Option (List ℕ)) (result : Result ℕ CliFault) →
-      IfErr result (StopsTelling traced traces wrote writes trace line) → traced ≡ blank → made ≡ traces →
-      IfErr result (λ fault. fault ≡ Write → (behind : Option (List ℕ)) × IsReportCut (reading source behind) blank made wrote writes limit)
+      IfErr result (StopsTelling (writing traced traces) (writing wrote writes) trace line) → traced ≡ blank → made ≡ traces →
+      IfErr result (λ fault. fault ≡ Write → (behind : Option (List ℕ)) × IsReportCut (reading source behind) (writing blank made) (writing wrote writes) limit)
   recorded_first traced traces blank made wrote writes (Ok ended) stops begun left = tt
   recorded_first traced traces blank made wrote writes (Err fault) stops begun left = λ named. (
     behind,
-    subst (λ (f : CliFault). HasTracedCause (reading source behind) blank made wrote writes limit f) named
+    subst (λ (f : CliFault). HasTracedCause (reading source behind) (writing blank made) (writing wrote writes) limit f) named
         (telling_cause (reading source behind) blank made wrote writes limit line trace status fault told_of
-        (subst (λ (b : Option (List ℕ)). StopsTelling b made wrote writes trace line fault) begun
-        (subst (λ (m : Option (List ℕ)). StopsTelling traced m wrote writes trace line fault) (sym left) stops))),
+        (subst (λ (b : Option (List ℕ)). StopsTelling (writing b made) (writing wrote writes) trace line fault) begun
+        (subst (λ (m : Option (List ℕ)). StopsTelling (writing traced m) (writing wrote writes) trace line fault) (sym left) stops))),
   )
 
 -- ---- a run and its trace

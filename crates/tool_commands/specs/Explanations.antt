@@ -31,8 +31,7 @@ use Rattle.race_records.specs.declared.document.Outcome.{Outcome as Ending}
 use Rattle.race_records.specs.declared.document.Outcome.TheVariants.{Clean as CleanEnding, Raced as RacedEnding, Unfinished as UnfinishedEnding}
 use Rattle.race_records.specs.declared.form.RecordForm.{RecordForm}
 use Rattle.race_records.specs.Forms.{in_form}
-use Rattle.race_records.specs.Warned.{none_warned}
-use Rattle.race_records.specs.Documents.{RecordsEntries, RecordsRun}
+use Rattle.race_records.specs.Documents.{end_of_trace, RecordsEntries, RunParts, run_parts, RecordsRun}
 use Rattle.race_records.specs.Unjudged.{RecordsText, illegal_told}
 use Rattle.tool_commands.specs.Memories.{memory_told}
 use Rattle.tool_commands.specs.declared.explain.Rendering.{Rendering}
@@ -41,7 +40,7 @@ use Rattle.fault_lists.specs.Messages.{TellsFaults}
 use Rattle.program_warnings.specs.Messages.{TellsWarnings}
 use Rattle.source_quotes.specs.Quotes.{counted}
 use Rattle.race_explanations.specs.declared.extent.Extent.{Extent}
-use Rattle.race_explanations.specs.Explained.{IsExplanation, IsTraceExplanation, trace_setting}
+use Rattle.race_explanations.specs.Explained.{ProgramFile, program_file, IsExplanation, IsTraceExplanation, trace_setting}
 use Rattle.race_explanations.specs.declared.illegal.Illegality.{Illegality}
 use Rattle.race_explanations.specs.Illegal.{HasReason, illegal_text}
 use Rattle.command_streams.specs.declared.fault.CliFault.{CliFault}
@@ -91,59 +90,76 @@ cut_text limit = (cut_words ++ decimal limit) ++ cut_behind
 abbrev pub Wrapping : Type 0
 Wrapping = ℕ → Option ℕ
 
+-- a program and the text that means it, told by the name of its file
+abbrev pub file_of : Manner → (text : List ℕ) → Contents → ProgramFile
+file_of manner text program = program_file manner.file (lines text) program
+
+-- It is told to a person in this way, or as a record in that way.
+abbrev pub IsToldBy : Rendering → (as_text : Type 0) → (as_record : RecordForm → Type 0) → Type 0
+IsToldBy Text as_text as_record = as_text
+IsToldBy (Record form) as_text as_record = as_record form
+
+-- a run in which nothing was refused, and which left this memory
+abbrev pub clean_run : ProgramFile → Wrapping → List Entry → (memory : List ℕ) → RunParts
+clean_run file wraps entries memory = run_parts entries wraps CleanEnding (memory_told file.program.known.mems memory)
+
 -- where nothing was refused in a run that left this memory and wraps these indexes
-abbrev pub TellsClean : Rendering → Manner → (text : List ℕ) → Contents → Wrapping → List Entry → (memory told : List ℕ) → Type 0
-TellsClean Text manner text program wraps entries memory told = told ≡ clean_text program memory
-TellsClean (Record form) manner text program wraps entries memory told =
-    RecordsRun form CleanEnding manner.extent manner.file (lines text) program wraps entries (memory_told program.known.mems memory) told
+abbrev pub TellsClean : Manner → ProgramFile → Wrapping → List Entry → (memory told : List ℕ) → Type 0
+TellsClean manner file wraps entries memory told =
+    IsToldBy manner.rendering (told ≡ clean_text file.program memory)
+    (λ form. RecordsRun form manner.extent file (clean_run file wraps entries memory) told)
 
 -- where something was refused
-abbrev pub TellsRaces : Rendering → Manner → (text : List ℕ) → Contents → Wrapping → List Entry → (told : List ℕ) → Type 0
-TellsRaces Text manner text program wraps entries told = IsExplanation manner.is_painted manner.extent manner.file (lines text) program entries told
-TellsRaces (Record form) manner text program wraps entries told =
-    RecordsRun form RacedEnding manner.extent manner.file (lines text) program wraps entries null told
+abbrev pub TellsRaces : Manner → ProgramFile → Wrapping → List Entry → (told : List ℕ) → Type 0
+TellsRaces manner file wraps entries told =
+    IsToldBy manner.rendering (IsExplanation manner.is_painted manner.extent file entries told)
+    (λ form. RecordsRun form manner.extent file (run_parts entries wraps RacedEnding null) told)
 
--- where the limit ended the run: the races until then, and that it is no whole run
-abbrev pub TellsCut : Rendering → Manner → (text : List ℕ) → Contents → Wrapping → List Entry → (told : List ℕ) → Type 0
-TellsCut Text manner text program wraps entries told =
-    (explanation : List ℕ) × (_ : IsExplanation manner.is_painted manner.extent manner.file (lines text) program entries explanation) ×
+-- to a person where the limit ended the run: the races until then, and that it is no whole run
+abbrev pub ExplainsCut : Manner → ProgramFile → List Entry → (told : List ℕ) → Type 0
+ExplainsCut manner file entries told =
+    (explanation : List ℕ) × (_ : IsExplanation manner.is_painted manner.extent file entries explanation) ×
     (told ≡ explanation ++ cut_text (length entries))
-TellsCut (Record form) manner text program wraps entries told =
-    RecordsRun form UnfinishedEnding manner.extent manner.file (lines text) program wraps entries null told
+
+-- where the limit ended the run
+abbrev pub TellsCut : Manner → ProgramFile → Wrapping → List Entry → (told : List ℕ) → Type 0
+TellsCut manner file wraps entries told =
+    IsToldBy manner.rendering (ExplainsCut manner file entries told)
+    (λ form. RecordsRun form manner.extent file (run_parts entries wraps UnfinishedEnding null) told)
 
 -- the faults of the text that can be told apart, the first of which is this one
-abbrev pub TellsFaulty : Rendering → Manner → Meant → (text : List ℕ) → Fault → (told : List ℕ) → Type 0
-TellsFaulty Text manner meant text fault told = TellsFaults manner.is_painted manner.file meant text fault told
-TellsFaulty (Record form) manner meant text fault told = RecordsText form manner.file meant text fault told
+abbrev pub TellsFaulty : Manner → Meant → (text : List ℕ) → Fault → (told : List ℕ) → Type 0
+TellsFaulty manner meant text fault told =
+    IsToldBy manner.rendering (TellsFaults manner.is_painted manner.file meant text fault told)
+    (λ form. RecordsText form manner.file meant text fault told)
 
 -- why the request with this number of a trace is illegal
-abbrev pub TellsIllegal : Rendering → Manner → (text : List ℕ) → TraceContents → ℕ → Illegality → (told : List ℕ) → Type 0
-TellsIllegal Text manner text trace number why told =
-    told ≡ illegal_text manner.is_painted manner.file (lines text) trace.lines number why
-TellsIllegal (Record form) manner text trace number why told =
-    IsTextOf (in_form form (illegal_told manner.file (lines text) trace.lines number why)) told
+abbrev pub TellsIllegal : Manner → (text : List ℕ) → TraceContents → ℕ → Illegality → (told : List ℕ) → Type 0
+TellsIllegal manner text trace number why told =
+    IsToldBy manner.rendering (told ≡ illegal_text manner.is_painted manner.file (lines text) trace.lines number why)
+    (λ form. IsTextOf (in_form form (illegal_told manner.file (lines text) trace.lines number why)) told)
 
 -- ---- a run
 
 -- The warnings of the program are told, and behind them what is told of a run.
-pub record WarnsBefore (manner : Manner) (text : List ℕ) (program : Contents) (wraps : Wrapping) (run told : List ℕ) : Type 0 where
+pub record WarnsBefore (is_painted : Bool) (file : ProgramFile) (wraps : Wrapping) (run told : List ℕ) : Type 0 where
   pub warnings : List ℕ
-  pub warns : TellsWarnings manner.is_painted manner.file (lines text) program wraps warnings
+  pub warns : TellsWarnings is_painted file.name file.lines file.program wraps warnings
   pub told_is : told ≡ warnings ++ run
 
 -- To a person the warnings are told before the run; a record of the run has them.
-abbrev pub IsBehindWarnings : Rendering → Manner → (text : List ℕ) → Contents → Wrapping → (run told : List ℕ) → Type 0
-IsBehindWarnings Text manner text program wraps run told = WarnsBefore manner text program wraps run told
-IsBehindWarnings (Record form) manner text program wraps run told = told ≡ run
+abbrev pub IsBehindWarnings : Manner → ProgramFile → Wrapping → (run told : List ℕ) → Type 0
+IsBehindWarnings manner file wraps run told =
+    IsToldBy manner.rendering (WarnsBefore manner.is_painted file wraps run told) (λ form. told ≡ run)
 
 -- The indexes are those that the run wraps, and the run is told, and the warnings of the program.
-pub record TellsWarned (manner : Manner) (text : List ℕ) (program : Contents) (entries : List Entry) (TellsRun : Wrapping → List ℕ → Type 0)
-    (told : List ℕ) : Type 0 where
+pub record TellsWarned (manner : Manner) (file : ProgramFile) (entries : List Entry) (TellsRun : Wrapping → List ℕ → Type 0) (told : List ℕ)
+    : Type 0 where
   pub wraps : BTreeMap ℕ ℕ
-  pub are_wraps : AreWraps program.functions (shape_of_program program) (reverse entries) wraps
+  pub are_wraps : AreWraps file.program.functions (shape_of_program file.program) (reverse entries) wraps
   pub run : List ℕ
   pub tells_run : TellsRun (get nat_cmp wraps) run
-  pub behind : IsBehindWarnings manner.rendering manner text program (get nat_cmp wraps) run told
+  pub behind : IsBehindWarnings manner file (get nat_cmp wraps) run told
 
 -- A finished run in which nothing was refused is told, which speaks for every schedule.
 pub record IsCleanTold (manner : Manner) (text : List ℕ) (program : Contents) (limit : ℕ) (told : List ℕ) : Type 0 where
@@ -154,7 +170,8 @@ pub record IsCleanTold (manner : Manner) (text : List ℕ) (program : Contents) 
   pub left : IsMemory (cells_of program.known.mems) (reverse entries) memory
   pub clean : IsClean (reverse entries)
   pub speaks : SpeaksForAll program.functions (shape_of_program program) (reverse entries)
-  pub tells : TellsWarned manner text program entries (λ wraps run. TellsClean manner.rendering manner text program wraps entries memory run) told
+  pub tells : TellsWarned manner (file_of manner text program) entries
+      (λ wraps run. TellsClean manner (file_of manner text program) wraps entries memory run) told
 
 -- The races of a finished run are told.
 pub record IsRacedTold (manner : Manner) (text : List ℕ) (program : Contents) (limit : ℕ) (told : List ℕ) : Type 0 where
@@ -162,7 +179,8 @@ pub record IsRacedTold (manner : Manner) (text : List ℕ) (program : Contents) 
   pub run : IsFinishedRun program.functions (shape_of_program program) (reverse entries)
   pub within : length entries ≤ limit
   pub raced : IsClean (reverse entries) → ⊥
-  pub explains : TellsWarned manner text program entries (λ wraps run. TellsRaces manner.rendering manner text program wraps entries run) told
+  pub explains : TellsWarned manner (file_of manner text program) entries
+      (λ wraps run. TellsRaces manner (file_of manner text program) wraps entries run) told
 
 -- The races are told of a run that has just as many entries as the limit and has not come to its end, and that it is no whole run.
 pub record IsCutTold (manner : Manner) (text : List ℕ) (program : Contents) (limit : ℕ) (told : List ℕ) (refused : ℕ) : Type 0 where
@@ -170,7 +188,8 @@ pub record IsCutTold (manner : Manner) (text : List ℕ) (program : Contents) (l
   pub run : IsRun program.functions (shape_of_program program) (reverse entries)
   pub full : length entries ≡ limit
   pub unfinished : IsFinished (reverse entries) → ⊥
-  pub explains : TellsWarned manner text program entries (λ wraps run. TellsCut manner.rendering manner text program wraps entries run) told
+  pub explains : TellsWarned manner (file_of manner text program) entries
+      (λ wraps run. TellsCut manner (file_of manner text program) wraps entries run) told
   pub refused_is : refused ≡ refusal_status entries
 
 -- A run with this end is told.
@@ -199,7 +218,7 @@ pub record IsFaultTold (manner : Manner) (text : List ℕ) (told : List ℕ) (st
   pub number : ℕ
   pub why : Cause
   pub faults : TextFaults text number why
-  pub tells : TellsFaulty manner.rendering manner Program text (record { line = number; why = why }) told
+  pub tells : TellsFaulty manner Program text (record { line = number; why = why }) told
   pub status_is : status ≡ 2
 
 -- ---- a trace
@@ -232,14 +251,19 @@ TellsEntries manner notes trace entries told =
 -- The text tells in the form of the trace, and what was recorded.
 abbrev pub RecordsTrace : RecordForm → Extent → Notes Global → TraceContents → List Entry → (told : List ℕ) → Type 0
 RecordsTrace form extent notes trace entries told =
-    RecordsEntries form (ending_of (refusal_status entries)) 1 extent (trace_setting false notes trace.known entries) entries null (kept_runs notes)
-    none_warned told
+    RecordsEntries form extent (trace_setting false notes trace.known entries) entries
+    (end_of_trace (ending_of (refusal_status entries)) notes) told
+
+-- the trace to a person, and what was recorded
+abbrev pub ExplainsTrace : Manner → Notes Global → TraceContents → List Entry → (told : List ℕ) → Type 0
+ExplainsTrace manner notes trace entries told =
+    (verdict : List ℕ) × (_ : TellsEntries manner notes trace entries verdict) × (told ≡ verdict ++ recorded_text notes)
 
 -- The trace is told, and what was recorded.
-abbrev pub TellsTrace : Rendering → Manner → Notes Global → TraceContents → List Entry → (told : List ℕ) → Type 0
-TellsTrace Text manner notes trace entries told =
-    (verdict : List ℕ) × (_ : TellsEntries manner notes trace entries verdict) × (told ≡ verdict ++ recorded_text notes)
-TellsTrace (Record form) manner notes trace entries told = RecordsTrace form manner.extent notes trace entries told
+abbrev pub TellsTrace : Manner → Notes Global → TraceContents → List Entry → (told : List ℕ) → Type 0
+TellsTrace manner notes trace entries told =
+    IsToldBy manner.rendering (ExplainsTrace manner notes trace entries told)
+    (λ form. RecordsTrace form manner.extent notes trace entries told)
 
 -- A gate answered each request of the trace that the text means, and its entries are told by the notes of that very text. Where nothing was
 -- refused, that speaks for each order in which the strands can come.
@@ -253,7 +277,7 @@ pub record IsTraceTold (manner : Manner) (text : List ℕ) (told : List ℕ) (st
   pub speaks : IsClean gate.history → SpeaksForOrders gate.shape gate.history
   pub notes : Notes Global
   pub are_notes : AreNotes (lines text) notes
-  pub tells : TellsTrace manner.rendering manner notes trace entries told
+  pub tells : TellsTrace manner notes trace entries told
   pub status_is : status ≡ refusal_status entries
 
 -- The faults of the text as a trace that can be told apart are told, the first of which is its fault.
@@ -261,7 +285,7 @@ pub record IsTraceFaultTold (manner : Manner) (text : List ℕ) (told : List ℕ
   pub number : ℕ
   pub why : Cause
   pub faults : TraceFaults text number why
-  pub tells : TellsFaulty manner.rendering manner Trace text (record { line = number; why = why }) told
+  pub tells : TellsFaulty manner Trace text (record { line = number; why = why }) told
   pub status_is : status ≡ 2
 
 -- The text means a trace, and of its first request that a gate does not answer it is told why it is illegal in the history of that gate.
@@ -273,7 +297,7 @@ pub record IsIllegalTold (manner : Manner) (text : List ℕ) (told : List ℕ) (
   pub stops : StopsAt trace gate stop
   pub why : Illegality
   pub reason : HasReason gate stop.request why
-  pub tells : TellsIllegal manner.rendering manner text trace stop.number why told
+  pub tells : TellsIllegal manner text trace stop.number why told
   pub status_is : status ≡ 2
 
 -- It is told why no trace is judged to its end: by a fault of the text, or by an illegal request.

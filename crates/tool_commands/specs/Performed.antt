@@ -33,8 +33,8 @@ use Rattle.tool_commands.specs.Runs.{IsRan, HasRunCause}
 use Rattle.command_streams.specs.Sources.{Sources}
 use Rattle.judge_command.specs.Statuses.{status_of_replies}
 use Rattle.command_streams.specs.Streams.{IsAnswered, HasCause, StopsWriting}
-use Rattle.tool_commands.specs.Traced.{IsTraced, IsTraceWritten, IsReportCut, HasTraceCause, HasTracedCause}
-use Rattle.tool_commands.specs.Several.{AreExplained, HasSeveralCause}
+use Rattle.tool_commands.specs.Traced.{Writing, writing, IsTraced, IsTraceWritten, IsReportCut, HasTraceCause, HasTracedCause}
+use Rattle.tool_commands.specs.Several.{style, AreExplained, HasSeveralCause}
 
 -- the language of a drawing, as the words of the command line name it
 abbrev pub form_of : Language → Form
@@ -108,7 +108,8 @@ IsPerformed sources (ExplainInput workers is_serial limit color format is_all) w
     IsMannerOf input_name color format is_all manner ×
     IsExplained manner (reading sources.input behind) wrote writes limit status
 IsPerformed sources (ExplainTraces files color format is_all) wrote writes status = (is_painted : Bool) × IsPaintedBy color is_painted ×
-    AreExplained is_painted (extent_of is_all) (rendering_of format) sources.file (map string_bytes files.items) wrote writes status
+    AreExplained (style is_painted (extent_of is_all) (rendering_of format)) sources.file (map string_bytes files.items)
+    wrote writes status
 IsPerformed sources (Replay file trace) wrote writes status = (program_behind : Option (List ℕ)) × (trace_behind : Option (List ℕ)) ×
     IsReplayed (reading (named sources (string_bytes file)) program_behind)
     (reading (replayed sources (string_bytes file) (string_bytes trace)) trace_behind)
@@ -128,8 +129,8 @@ HasJobCause sources (Run file workers limit) wrote writes fault = (behind : Opti
 HasJobCause sources (Trace file workers limit) wrote writes fault = (behind : Option (List ℕ)) ×
     HasTraceCause (reading (named sources (string_bytes file)) behind) wrote writes limit fault
 HasJobCause sources (Record file workers limit trace) wrote writes fault =
-    (behind : Option (List ℕ)) × (traced : Option (List ℕ)) × (traces : Option (List ℕ)) ×
-    HasTracedCause (reading (sources.file (string_bytes file)) behind) traced traces wrote writes limit fault
+    (behind : Option (List ℕ)) × (traces : Writing) ×
+    HasTracedCause (reading (sources.file (string_bytes file)) behind) traces (writing wrote writes) limit fault
 HasJobCause sources (Explain file workers is_serial limit color format is_all) wrote writes fault = (behind : Option (List ℕ)) × (manner : Manner) ×
     IsMannerOf (string_bytes file) color format is_all manner ×
     HasExplanationCause manner (reading (sources.file (string_bytes file)) behind) wrote writes limit fault
@@ -137,7 +138,8 @@ HasJobCause sources (ExplainInput workers is_serial limit color format is_all) w
     IsMannerOf input_name color format is_all manner ×
     HasExplanationCause manner (reading sources.input behind) wrote writes limit fault
 HasJobCause sources (ExplainTraces files color format is_all) wrote writes fault = (is_painted : Bool) × IsPaintedBy color is_painted ×
-    HasSeveralCause is_painted (extent_of is_all) (rendering_of format) sources.file (map string_bytes files.items) wrote writes fault
+    HasSeveralCause (style is_painted (extent_of is_all) (rendering_of format)) sources.file (map string_bytes files.items)
+    wrote writes fault
 HasJobCause sources (Replay file trace) wrote writes fault = (program_behind : Option (List ℕ)) × (trace_behind : Option (List ℕ)) ×
     HasReplayCause (reading (named sources (string_bytes file)) program_behind)
     (reading (replayed sources (string_bytes file) (string_bytes trace)) trace_behind)
@@ -147,18 +149,16 @@ HasJobCause sources (Draw file language) wrote writes fault = (behind : Option (
 HasJobCause sources (Show text) wrote writes fault = StopsWriting wrote writes (string_bytes text) fault
 
 -- Of a job that records: the file of the trace, which held `blank` when it was made, has the trace of the run that is reported.
-abbrev pub IsRecorded : Sources → Job → (blank : Option (List ℕ)) →
-    (made : List ℕ → Option (List ℕ)) → (wrote writes : Option (List ℕ)) → (status : ℕ) → Type 0
-IsRecorded sources (Record file workers limit trace) blank made wrote writes status = (behind : Option (List ℕ)) ×
-    IsTraced (reading (sources.file (string_bytes file)) behind) blank (made (string_bytes trace)) wrote writes limit status
-IsRecorded sources job blank made wrote writes status = Unit {0}
+abbrev pub IsRecorded : Sources → Job → (blank : Option (List ℕ)) → (made : List ℕ → Option (List ℕ)) → Writing → (status : ℕ) → Type 0
+IsRecorded sources (Record file workers limit trace) blank made reports status = (behind : Option (List ℕ)) ×
+    IsTraced (reading (sources.file (string_bytes file)) behind) (writing blank (made (string_bytes trace))) reports limit status
+IsRecorded sources job blank made reports status = Unit {0}
 
 -- Of a job that records, where only a part of the report could be written: the file has the trace of the run that was to be reported.
-abbrev pub IsRecordedFirst : Sources → Job → (blank : Option (List ℕ)) →
-    (made : List ℕ → Option (List ℕ)) → (wrote writes : Option (List ℕ)) → Type 0
-IsRecordedFirst sources (Record file workers limit trace) blank made wrote writes = (behind : Option (List ℕ)) ×
-    IsReportCut (reading (sources.file (string_bytes file)) behind) blank (made (string_bytes trace)) wrote writes limit
-IsRecordedFirst sources job blank made wrote writes = Unit {0}
+abbrev pub IsRecordedFirst : Sources → Job → (blank : Option (List ℕ)) → (made : List ℕ → Option (List ℕ)) → Writing → Type 0
+IsRecordedFirst sources (Record file workers limit trace) blank made reports = (behind : Option (List ℕ)) ×
+    IsReportCut (reading (sources.file (string_bytes file)) behind) (writing blank (made (string_bytes trace))) reports limit
+IsRecordedFirst sources job blank made reports = Unit {0}
 
 -- The file of the job's trace can't be created.
 abbrev pub BarsTrace : (List ℕ → Type 0) → Job → Type 0

@@ -28,7 +28,7 @@ use Rattle.command_streams.specs.Readings.{Reading, StopsReader}
 use Rattle.command_streams.specs.Streams.{IsRead}
 use Rattle.tool_commands.specs.declared.explain_traces.Traces.{Traces}
 use Rattle.tool_commands.specs.Replays.{AnswersAll}
-use Rattle.tool_commands.specs.Explanations.{Manner, recorded_line, IsUnjudgedTold, IsUntoldTrace}
+use Rattle.tool_commands.specs.Explanations.{Manner, recorded_line, IsToldBy, IsUnjudgedTold, IsUntoldTrace}
 
 -- ---- what is kept of the traces
 
@@ -68,11 +68,13 @@ TellsTogether (Record form) extent together told = IsTextOf (in_form form (recor
 -- ---- one more
 
 -- What is found in a trace is added to what is told in this form, and nothing to the other.
-abbrev pub AddsFound : Rendering → Manner → Notes Global → TraceContents → List Entry → (old new : Together) → Type 0
-AddsFound Text manner notes trace entries old new =
-    AddsTrace manner.extent manner.file (trace_setting manner.is_painted notes trace.known entries) entries old.found new.found × (new.records ≡ old.records)
-AddsFound (Record form) manner notes trace entries old new =
-    RecordsMore manner.extent manner.file (trace_setting false notes trace.known entries) entries old.records new.records × (new.found ≡ old.found)
+abbrev pub AddsFound : Manner → Notes Global → TraceContents → List Entry → (old new : Together) → Type 0
+AddsFound manner notes trace entries old new =
+    IsToldBy manner.rendering
+    (AddsTrace manner.extent manner.file (trace_setting manner.is_painted notes trace.known entries) entries old.found new.found ×
+    (new.records ≡ old.records))
+    (λ form. RecordsMore manner.extent manner.file (trace_setting false notes trace.known entries) entries old.records new.records ×
+    (new.found ≡ old.found))
 
 -- The text means a trace, a gate answered each request of it, and what is found in it is added, by the notes of that very text. Where
 -- nothing was refused, that speaks for each order in which the strands can come.
@@ -86,7 +88,7 @@ pub record AddsText (manner : Manner) (text : List ℕ) (old new : Together) : T
   pub speaks : IsClean gate.history → SpeaksForOrders gate.shape gate.history
   pub notes : Notes Global
   pub are_notes : AreNotes (lines text) notes
-  pub adds : AddsFound manner.rendering manner notes trace entries old new
+  pub adds : AddsFound manner notes trace entries old new
   pub runs_is : new.runs ≡ with_runs old.runs (kept_runs notes)
 
 -- The trace that a text means is added, or it is told why it is not judged to its end: the faults of the text, or an illegal request.

@@ -12,6 +12,14 @@ use Rattle.command_streams.specs.Readings.{Reading, StopsReader}
 use Rattle.tool_commands.specs.Runs.{TellsRun, IsProgramRead, IsRunStopped}
 use Rattle.command_streams.specs.Streams.{StopsWriting}
 
+-- what a writer had taken before a command and behind it
+pub record Writing : Type 0 where
+  pub before : Option (List ℕ)
+  pub behind : Option (List ℕ)
+
+abbrev pub writing : (before behind : Option (List ℕ)) → Writing
+writing before behind = record { before = before; behind = behind }
+
 -- The line is the report of some finished run of the program within the limit, and the trace is the plain text of the trace of that run.
 pub record TellsTraced (program : Contents) (limit : ℕ) (line trace : List ℕ) (status : ℕ) : Type 0 where
   pub tells : TellsRun program limit line status
@@ -25,34 +33,34 @@ pub record IsReadTraced (reader : Reading) (limit : ℕ) (line trace : List ℕ)
   pub tells : TellsTraced program limit line trace status
 
 -- Of one run the trace was written to the one writer, and the report to the other.
-pub record IsTraced (reader : Reading) (traced traces wrote writes : Option (List ℕ)) (limit status : ℕ) : Type 0 where
+pub record IsTraced (reader : Reading) (traces reports : Writing) (limit status : ℕ) : Type 0 where
   pub line : List ℕ
   pub trace : List ℕ
   pub told : IsReadTraced reader limit line trace status
-  pub kept : Appends traced traces trace
-  pub written : Appends wrote writes line
+  pub kept : Appends traces.before traces.behind trace
+  pub written : Appends reports.before reports.behind line
 
 -- Only a part of the trace of a run could be written.
-pub record IsTraceCut (reader : Reading) (traced traces : Option (List ℕ)) (limit : ℕ) : Type 0 where
+pub record IsTraceCut (reader : Reading) (traces : Writing) (limit : ℕ) : Type 0 where
   pub line : List ℕ
   pub trace : List ℕ
   pub status : ℕ
   pub part : List ℕ
   pub rest : List ℕ
   pub told : IsReadTraced reader limit line trace status
-  pub kept : Appends traced traces part
+  pub kept : Appends traces.before traces.behind part
   pub prefix : part ++ rest ≡ trace
 
 -- The trace of a run was written, and only a part of its report could be.
-pub record IsReportCut (reader : Reading) (traced traces wrote writes : Option (List ℕ)) (limit : ℕ) : Type 0 where
+pub record IsReportCut (reader : Reading) (traces reports : Writing) (limit : ℕ) : Type 0 where
   pub line : List ℕ
   pub trace : List ℕ
   pub status : ℕ
   pub part : List ℕ
   pub rest : List ℕ
   pub told : IsReadTraced reader limit line trace status
-  pub kept : Appends traced traces trace
-  pub written : Appends wrote writes part
+  pub kept : Appends traces.before traces.behind trace
+  pub written : Appends reports.before reports.behind part
   pub prefix : part ++ rest ≡ line
 
 -- Why there is no run to be told.
@@ -64,10 +72,10 @@ StopsRun reader limit Memory = Unit {0}
 StopsRun reader limit fault = IsRunStopped reader limit fault
 
 -- Why the trace and the report of a run are not written, or not wholly: each fault has its cause.
-abbrev pub HasTracedCause : Reading → (traced traces wrote writes : Option (List ℕ)) → (limit : ℕ) → CliFault → Type 0
-HasTracedCause reader traced traces wrote writes limit Unwritten = IsTraceCut reader traced traces limit
-HasTracedCause reader traced traces wrote writes limit Write = IsReportCut reader traced traces wrote writes limit
-HasTracedCause reader traced traces wrote writes limit fault = StopsRun reader limit fault
+abbrev pub HasTracedCause : Reading → (traces reports : Writing) → (limit : ℕ) → CliFault → Type 0
+HasTracedCause reader traces reports limit Unwritten = IsTraceCut reader traces limit
+HasTracedCause reader traces reports limit Write = IsReportCut reader traces reports limit
+HasTracedCause reader traces reports limit fault = StopsRun reader limit fault
 
 -- A part of the trace was written, and a call failed.
 abbrev pub StopsTrace : (traced traces : Option (List ℕ)) → (trace : List ℕ) → CliFault → Type 0
@@ -75,11 +83,11 @@ StopsTrace traced traces trace Unwritten = StopsWriting traced traces trace Writ
 StopsTrace traced traces trace fault = ⊥
 
 -- Only a part of the trace was written, or the trace and only a part of the report.
-abbrev pub StopsTelling : (traced traces wrote writes : Option (List ℕ)) → (trace line : List ℕ) → CliFault → Type 0
-StopsTelling traced traces wrote writes trace line Unwritten = StopsWriting traced traces trace Write
-StopsTelling traced traces wrote writes trace line Write = Appends traced traces trace ×
-    (part : List ℕ) × (rest : List ℕ) × Appends wrote writes part × (part ++ rest ≡ line)
-StopsTelling traced traces wrote writes trace line fault = ⊥
+abbrev pub StopsTelling : (traces reports : Writing) → (trace line : List ℕ) → CliFault → Type 0
+StopsTelling traces reports trace line Unwritten = StopsWriting traces.before traces.behind trace Write
+StopsTelling traces reports trace line Write = Appends traces.before traces.behind trace ×
+    (part : List ℕ) × (rest : List ℕ) × Appends reports.before reports.behind part × (part ++ rest ≡ line)
+StopsTelling traces reports trace line fault = ⊥
 
 -- ---- the trace in place of the report
 
@@ -96,5 +104,5 @@ pub record IsTraceWritten (reader : Reading) (wrote writes : Option (List ℕ)) 
 
 -- Why the trace is not written, or not wholly: each fault has its cause.
 abbrev pub HasTraceCause : Reading → (wrote writes : Option (List ℕ)) → (limit : ℕ) → CliFault → Type 0
-HasTraceCause reader wrote writes limit Write = IsTraceCut reader wrote writes limit
+HasTraceCause reader wrote writes limit Write = IsTraceCut reader (writing wrote writes) limit
 HasTraceCause reader wrote writes limit fault = StopsRun reader limit fault

@@ -21,7 +21,8 @@ ghost use Rattle.command_streams.specs.Readings.{reading};
 ghost use Rattle.command_streams.specs.KeptTexts.{text_of, IsKept};
 ghost use Rattle.tool_commands.specs.Runs.{IsRunFault, WantsMore};
 ghost use Rattle.tool_commands.specs.Explanations.{Manner as SpecManner, clean_words, clean_text, cut_words, cut_behind, cut_text};
-ghost use Rattle.tool_commands.specs.Explanations.{TellsClean, TellsRaces, TellsCut, TellsFaulty};
+ghost use Rattle.tool_commands.specs.Explanations.{file_of, clean_run, TellsClean, TellsRaces, ExplainsCut, TellsCut, TellsFaulty};
+ghost use Rattle.race_records.specs.Documents.{RecordsRun};
 ghost use Rattle.fault_lists.specs.FaultLists.{HasFault};
 ghost use Rattle.model_histories.specs.declared.answer.Entry.{Entry as AnyEntry};
 ghost use Rattle.model_races.specs.Judged.{IsJudged};
@@ -160,7 +161,7 @@ fn behind_warnings(
     wraps: &Wraps,
     run: Vec<u8>,
 ) -> Result<Vec<u8>, AllocError>
-    ensures { IfOk result (λ told. IsBehindWarnings manner.now.rendering manner.now text.now (contents program.now) (get nat_cmp wraps.now)
+    ensures { IfOk result (λ told. IsBehindWarnings manner.now (file_of manner.now text.now (contents program.now)) (get nat_cmp wraps.now)
         run.items told.items) }
 {
     match manner.rendering {
@@ -206,7 +207,9 @@ fn clean_record(
 ) -> Result<Vec<u8>, AllocError>
     requires judged { (shape : Shape) × IsJudged shape (reverse whole.now.entries.items) }
     requires few { length whole.now.entries.items ≤ most_entries }
-    ensures { IfOk result (λ told. TellsClean (Rendering.Record form) manner.now text.now (contents program.now) (get nat_cmp wraps.now) whole.now.entries.items whole.now.memory.items told.items) }
+    ensures { IfOk result (λ told. RecordsRun form manner.now.extent (file_of manner.now text.now (contents program.now))
+        (clean_run (file_of manner.now text.now (contents program.now)) (get nat_cmp wraps.now) whole.now.entries.items
+        whole.now.memory.items) told.items) }
 {
     let memory = memory_value(alloc, program.mems.as_slice(), whole.memory.as_slice())?;
     let digest = digest_of_run(alloc, &whole.entries, most_pairs(manner.extent))?;
@@ -235,7 +238,8 @@ fn explain_clean(
 ) -> Result<Vec<u8>, AllocError>
     requires judged { (shape : Shape) × IsJudged shape (reverse whole.now.entries.items) }
     requires few { length whole.now.entries.items ≤ most_entries }
-    ensures { IfOk result (λ told. TellsClean manner.now.rendering manner.now text.now (contents program.now) (get nat_cmp wraps.now) whole.now.entries.items whole.now.memory.items told.items) }
+    ensures { IfOk result (λ told. TellsClean manner.now (file_of manner.now text.now (contents program.now)) (get nat_cmp wraps.now)
+        whole.now.entries.items whole.now.memory.items told.items) }
 {
     match manner.rendering {
         Rendering::Text => clean_text_told(alloc, program, whole.memory.as_slice()),
@@ -257,7 +261,7 @@ fn races_told(
     requires digest { (entries : List AnyEntry) × IsDigest entries digest.now }
     requires most { most_of digest.now ≡ most_pairs manner.now.extent }
     ensures { IfOk result (λ told. (entries : List AnyEntry) → IsDigest entries digest.now →
-        TellsRaces manner.now.rendering manner.now text.now (contents program.now) (get nat_cmp wraps.now) entries told.items) }
+        TellsRaces manner.now (file_of manner.now text.now (contents program.now)) (get nat_cmp wraps.now) entries told.items) }
 {
     match manner.rendering {
         Rendering::Text => explanation(
@@ -330,8 +334,8 @@ fn cut_text_told(
 ) -> Result<Vec<u8>, AllocError>
     requires digest { (entries : List AnyEntry) × IsDigest entries digest.now }
     requires most { most_of digest.now ≡ most_pairs manner.now.extent }
-    ensures { IfOk result (λ told. (wraps : ℕ → Option ℕ) (entries : List AnyEntry) → IsDigest entries digest.now →
-        TellsCut Rendering.Text manner.now text.now (contents program.now) wraps entries told.items) }
+    ensures { IfOk result (λ told. (entries : List AnyEntry) → IsDigest entries digest.now →
+        ExplainsCut manner.now (file_of manner.now text.now (contents program.now)) entries told.items) }
 {
     let mut told = explanation(
         alloc,
@@ -358,7 +362,7 @@ fn limit_told(
     requires digest { (entries : List AnyEntry) × IsDigest entries digest.now }
     requires most { most_of digest.now ≡ most_pairs manner.now.extent }
     ensures { IfOk result (λ told. (entries : List AnyEntry) → IsDigest entries digest.now →
-        TellsCut manner.now.rendering manner.now text.now (contents program.now) (get nat_cmp wraps.now) entries told.items) }
+        TellsCut manner.now (file_of manner.now text.now (contents program.now)) (get nat_cmp wraps.now) entries told.items) }
 {
     match manner.rendering {
         Rendering::Text => cut_text_told(alloc, manner, text, program, digest),
@@ -472,7 +476,7 @@ pub(crate) fn faults_told(
     fault: Fault,
 ) -> Result<Vec<u8>, AllocError>
     requires { HasFault meant text.now fault }
-    ensures { IfOk result (λ told. TellsFaulty manner.now.rendering manner.now meant text.now fault told.items) }
+    ensures { IfOk result (λ told. TellsFaulty manner.now meant text.now fault told.items) }
 {
     match manner.rendering {
         Rendering::Text => {

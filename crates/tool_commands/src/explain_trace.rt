@@ -14,7 +14,8 @@ ghost use Rattle.tool_commands.specs.Cleanness.{IsAllClean};
 ghost use Rattle.tool_commands.specs.Digested.{IsDigested};
 ghost use Rattle.tool_commands.specs.Replays.{AnswersAll, StopsAt, StopsGate};
 ghost use Rattle.tool_commands.specs.Explanations.{clean_trace_words, recorded_line, recorded_text, judged_text, TellsEntries, IsTraceTold, IsIllegalTold, IsUnjudgedTold};
-ghost use Rattle.tool_commands.specs.Explanations.{Manner as SpecManner, IsUntoldTrace, ending_of, RecordsTrace, TellsTrace, TellsIllegal};
+ghost use Rattle.tool_commands.specs.Explanations.{Manner as SpecManner, IsUntoldTrace, ending_of, RecordsTrace};
+ghost use Rattle.tool_commands.specs.Explanations.{ExplainsTrace, TellsTrace, TellsIllegal};
 
 use crate::ask::{Stop, ask_all};
 use crate::clean::clean_count;
@@ -178,7 +179,7 @@ fn illegal_told(
     number: usize,
     why: Illegality,
 ) -> Result<Vec<u8>, AllocError>
-    ensures { IfOk result (λ told. TellsIllegal manner.now.rendering manner.now text.now (trace_contents trace.now) number why told.items) }
+    ensures { IfOk result (λ told. TellsIllegal manner.now text.now (trace_contents trace.now) number why told.items) }
 {
     match manner.rendering {
         Rendering::Text => illegal_explanation(
@@ -254,7 +255,7 @@ fn verdict_text(
     requires digest { (entries : List Entry) × IsDigest entries digest.now }
     requires most { most_of digest.now ≡ most_pairs manner.now.extent }
     ensures { IfOk result (λ told. (entries : List Entry) → IsDigest entries digest.now →
-        TellsTrace Rendering.Text manner.now notes.now (trace_contents trace.now) entries told.items) }
+        ExplainsTrace manner.now notes.now (trace_contents trace.now) entries told.items) }
 {
     let mut told = explain_entries(alloc, manner, notes, trace, digest)?;
     push_recorded(&mut told, notes)?;
@@ -272,7 +273,7 @@ fn verdict_told(
     requires digest { (entries : List Entry) × IsDigest entries digest.now }
     requires most { most_of digest.now ≡ most_pairs manner.now.extent }
     ensures { IfOk result (λ told. (entries : List Entry) → IsDigest entries digest.now →
-        TellsTrace manner.now.rendering manner.now notes.now (trace_contents trace.now) entries told.items) }
+        TellsTrace manner.now notes.now (trace_contents trace.now) entries told.items) }
 {
     match manner.rendering {
         Rendering::Text => verdict_text(alloc, manner, notes, trace, digest),

@@ -127,7 +127,7 @@ impl Traces {
         requires digest { (entries : List Entry) × IsDigest entries digest.now }
         requires most { most_of digest.now ≡ most_pairs manner.now.extent }
         ensures found { OnOk result ((entries : List Entry) → IsDigest entries digest.now →
-            AddsFound manner.now.rendering manner.now notes.now (trace_contents trace.now) entries (together_of self.old) (together_of self.new)) }
+            AddsFound manner.now notes.now (trace_contents trace.now) entries (together_of self.old) (together_of self.new)) }
         ensures runs { (together_of self.new).runs ≡ (together_of self.old).runs }
     {
         match manner.rendering {

@@ -9,6 +9,7 @@ ghost use Rattle.command_streams.specs.Streams.{StopsWriting};
 ghost use Rattle.command_streams.specs.Devices.{LeavesDevices};
 ghost use Rattle.command_streams.specs.Watched.{held, has_failed, is_delivered};
 ghost use Rattle.tool_commands.specs.Performed.{form_of, rendering_of, extent_of, EndsJob, IsPaintedBy, IsRecorded};
+ghost use Rattle.tool_commands.specs.Traced.{writing};
 ghost use Rattle.tool_commands.specs.Performed.{IsRecordedFirst, BarsTrace, IsAlone, status_of_answer};
 
 use crate::draw::draw_text;
@@ -317,10 +318,10 @@ fn record_file<H: Host, W: Write, R: Threads + Wait + Sync>(
         (W.contents (held output.old)) (W.contents (held output.new)) result }
     ensures devices { LeavesDevices result (has_failed host.new) output.old output.new }
     ensures recorded { IfOk result (IsRecorded (H.sources (held host.old)) (Job.Record file.now workers limit trace.now)
-        (H.blank (held host.old)) (H.made (held host.new)) (W.contents (held output.old)) (W.contents (held output.new))) }
+        (H.blank (held host.old)) (H.made (held host.new)) (writing (W.contents (held output.old)) (W.contents (held output.new)))) }
     ensures recorded_first { IfErr result (λ fault. fault ≡ CliFault.Write →
         IsRecordedFirst (H.sources (held host.old)) (Job.Record file.now workers limit trace.now)
-        (H.blank (held host.old)) (H.made (held host.new)) (W.contents (held output.old)) (W.contents (held output.new))) }
+        (H.blank (held host.old)) (H.made (held host.new)) (writing (W.contents (held output.old)) (W.contents (held output.new)))) }
     ensures barred { BarsTrace (H.bars (held host.old)) (Job.Record file.now workers limit trace.now) → IsErr result }
 {
     let mut program = match host.open(file.as_str()) {
@@ -481,9 +482,9 @@ pub fn perform<H: Host, W: Write, R: Threads + Wait + Sync>(
     ensures status { IfOk result (λ status. status ≤ 4) }
     ensures devices { LeavesDevices result (has_failed host.new) output.old output.new }
     ensures recorded { IfOk result (IsRecorded (H.sources (held host.old)) job.now (H.blank (held host.old)) (H.made (held host.new))
-        (W.contents (held output.old)) (W.contents (held output.new))) }
+        (writing (W.contents (held output.old)) (W.contents (held output.new)))) }
     ensures recorded_first { IfErr result (λ fault. fault ≡ CliFault.Write → IsRecordedFirst (H.sources (held host.old)) job.now
-        (H.blank (held host.old)) (H.made (held host.new)) (W.contents (held output.old)) (W.contents (held output.new))) }
+        (H.blank (held host.old)) (H.made (held host.new)) (writing (W.contents (held output.old)) (W.contents (held output.new)))) }
     ensures barred { BarsTrace (H.bars (held host.old)) job.now → IsErr result }
 {
     match job {

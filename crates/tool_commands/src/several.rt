@@ -6,7 +6,7 @@ ghost use Rattle.command_streams.specs.Devices.{LeavesDevices};
 ghost use Rattle.command_streams.specs.Watched.{held, has_failed};
 ghost use Rattle.command_streams.specs.Readings.{reading};
 ghost use Rattle.tool_commands.specs.Together.{together_of, TakesReading, StopsTaking};
-ghost use Rattle.tool_commands.specs.Several.{TellsSeveral, StopsSeveral, AreExplained, HasSeveralCause};
+ghost use Rattle.tool_commands.specs.Several.{style, TellsSeveral, StopsSeveral, AreExplained, HasSeveralCause};
 ghost use Rattle.tool_commands.specs.Performed.{lacks_first};
 
 use crate::explain::{Manner, Rendering};
@@ -50,8 +50,10 @@ fn explain_texts<H: Host>(
     files: &[String],
 ) -> Result<(Vec<u8>, u8), CliFault>
     requires { has_failed host.old ≡ false }
-    ensures ok { IfOk result (λ told. TellsSeveral is_painted extent rendering (H.sources (held host.old)).file (map string_bytes files.now) told.0.items told.1) }
-    ensures fault { IfErr result (StopsSeveral is_painted extent rendering (H.sources (held host.old)).file (map string_bytes files.now)) }
+    ensures ok { IfOk result (λ told. TellsSeveral (style is_painted extent rendering) (H.sources (held host.old)).file
+        (map string_bytes files.now) told.0.items told.1) }
+    ensures fault { IfErr result (StopsSeveral (style is_painted extent rendering) (H.sources (held host.old)).file
+        (map string_bytes files.now)) }
     ensures read_failed { IsErrOf result CliFault.Read ↔ IsTrue (has_failed host.new) }
     ensures not_write { IsErrOf result CliFault.Write → ⊥ }
     ensures lacking { lacks_first (H.lacks (held host.old)) (map string_bytes files.now) → IsErrOf result CliFault.Read }
@@ -86,10 +88,10 @@ pub(crate) fn explain_files<H: Host, W: Write>(
 ) -> Result<u8, CliFault>
     requires host { has_failed host.old ≡ false }
     requires writer { has_failed output.old ≡ false }
-    ensures done { IfOk result (AreExplained is_painted extent rendering (H.sources (held host.old)).file (map string_bytes files.now)
-        (W.contents (held output.old)) (W.contents (held output.new))) }
-    ensures fault { IfErr result (HasSeveralCause is_painted extent rendering (H.sources (held host.old)).file (map string_bytes files.now)
-        (W.contents (held output.old)) (W.contents (held output.new))) }
+    ensures done { IfOk result (AreExplained (style is_painted extent rendering) (H.sources (held host.old)).file
+        (map string_bytes files.now) (W.contents (held output.old)) (W.contents (held output.new))) }
+    ensures fault { IfErr result (HasSeveralCause (style is_painted extent rendering) (H.sources (held host.old)).file
+        (map string_bytes files.now) (W.contents (held output.old)) (W.contents (held output.new))) }
     ensures status { IfOk result (λ status. status ≤ 2) }
     ensures devices { LeavesDevices result (has_failed host.new) output.old output.new }
     ensures lacking { lacks_first (H.lacks (held host.old)) (map string_bytes files.now) → IsErrOf result CliFault.Read }

@@ -9,8 +9,8 @@ ghost use Rattle.command_streams.specs.Watched.{held, has_failed, is_delivered, 
 ghost use Rattle.command_streams.specs.Streams.{most_reads};
 ghost use Rattle.command_streams.specs.Readings.{reading};
 ghost use Rattle.tool_commands.specs.Runs.{IsRunFault};
-ghost use Rattle.tool_commands.specs.Traced.{TellsTraced, IsReadTraced, IsTraced, StopsRun, StopsTrace, StopsTelling, HasTracedCause};
-ghost use Rattle.tool_commands.specs.Traced.{TellsTrace, IsTraceWritten, HasTraceCause};
+ghost use Rattle.tool_commands.specs.Traced.{writing, TellsTraced, IsReadTraced, IsTraced, StopsRun, StopsTrace, StopsTelling};
+ghost use Rattle.tool_commands.specs.Traced.{HasTracedCause, TellsTrace, IsTraceWritten, HasTraceCause};
 
 use crate::outcome::whole_status;
 use crate::program::parse_program;
@@ -126,8 +126,8 @@ pub fn write_traced_run<T: Write, W: Write>(
     ensures status { IfOk result (λ status. status ≡ told.now.status) }
     ensures kept { OnOk result (Appends (T.contents (held trace.old)) (T.contents (held trace.new)) told.now.trace.items) }
     ensures written { OnOk result (Appends (W.contents (held output.old)) (W.contents (held output.new)) told.now.line.items) }
-    ensures fault { IfErr result (StopsTelling (T.contents (held trace.old)) (T.contents (held trace.new))
-        (W.contents (held output.old)) (W.contents (held output.new)) told.now.trace.items told.now.line.items) }
+    ensures fault { IfErr result (StopsTelling (writing (T.contents (held trace.old)) (T.contents (held trace.new)))
+        (writing (W.contents (held output.old)) (W.contents (held output.new))) told.now.trace.items told.now.line.items) }
     ensures delivered { OnOk result (is_delivered output.new ≡ true) }
     ensures trace_delivered { OnOk result (is_delivered trace.new ≡ true) }
     ensures trace_first { IsErrOf result CliFault.Write → is_delivered trace.new ≡ true }
@@ -168,9 +168,11 @@ pub fn run_traced_text<D: Door + Sync, P: Read, T: Write, W: Write, R: Threads +
     requires workers { (0 < workers) × (workers ≤ 64) }
     requires limit { limit ≤ most_entries }
     ensures answered { IfOk result (IsTraced (reading (P.remaining (held program.old)) (P.remaining (held program.new)))
-        (T.contents (held trace.old)) (T.contents (held trace.new)) (W.contents (held output.old)) (W.contents (held output.new)) limit) }
+        (writing (T.contents (held trace.old)) (T.contents (held trace.new)))
+        (writing (W.contents (held output.old)) (W.contents (held output.new))) limit) }
     ensures fault { IfErr result (HasTracedCause (reading (P.remaining (held program.old)) (P.remaining (held program.new)))
-        (T.contents (held trace.old)) (T.contents (held trace.new)) (W.contents (held output.old)) (W.contents (held output.new)) limit) }
+        (writing (T.contents (held trace.old)) (T.contents (held trace.new)))
+        (writing (W.contents (held output.old)) (W.contents (held output.new))) limit) }
     ensures devices { LeavesDevices result (has_failed program.new) output.old output.new }
     ensures trace_delivered { OnOk result (is_delivered trace.new ≡ true) }
     ensures trace_first { IsErrOf result CliFault.Write → is_delivered trace.new ≡ true }

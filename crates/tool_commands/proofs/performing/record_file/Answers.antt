@@ -1,7 +1,24 @@
-use Rattle.std.proofs.Common.{rules}
+use Rattle.std.proofs.Common.{rules, ◌≡◌, ℕ, List, Option, None, sym, subst}
 use Rattle.std.proofs.lemmas.Result.{IfErr-weaker}
+use Rattle.command_streams.specs.declared.fault.CliFault.{CliFault}
+use Rattle.command_streams.specs.declared.fault.CliFault.TheVariants.{Read}
+use Rattle.command_streams.specs.Readings.{reading}
+use Rattle.tool_commands.specs.Traced.{Writing, writing, HasTracedCause}
 use Rattle.tool_commands.proofs.TracedCauses.{not_run, not_created, not_written, recorded_ran, recorded_kept, recorded_first}
 use Rattle.tool_commands.proofs.performing.record_file.Goals as goal
+
+-- a program that could not be opened is not run
+unread : (source wrote writes : Option (List ℕ)) (limit : ℕ) (fault : CliFault) → fault ≡ Read →
+    (behind : Option (List ℕ)) × (traces : Writing) × HasTracedCause (reading source behind) traces (writing wrote writes) limit fault
+unread source wrote writes limit fault is =
+    (None, writing None None, subst (λ (f : CliFault). HasTracedCause (reading source None) (writing None None) (writing wrote writes) limit f) (sym is) tt)
+
+pub returns-in-Err-clause-job : goal.returns-in-Err-clause-job
+returns-in-Err-clause-job g c = record {
+  done = search rules;
+  fault = unread _ _ _ c.args.limit c.in-Err.fault c.in-Err.ensures.fault;
+  lacking = search rules;
+}
 
 pub returns-in-Err-told-clause-job : goal.returns-in-Err-told-clause-job
 returns-in-Err-told-clause-job g c = record {

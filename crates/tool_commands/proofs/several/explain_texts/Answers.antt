@@ -6,13 +6,13 @@ use Rattle.std.proofs.lemmas.Grind.{common_steps}
 use Rattle.command_streams.specs.Watched.{held}
 use Rattle.command_streams.specs.Readings.{reading}
 use Rattle.tool_commands.specs.Together.{Together, together_of, TakesReading}
-use Rattle.tool_commands.specs.Several.{manner_in, AreTaken, none}
+use Rattle.tool_commands.specs.Several.{style, manner_in, AreTaken, none}
 use Rattle.tool_commands.proofs.Taking.{taken_more, faulty_at, stops_at, lacks_at, lacks_more}
 use Rattle.tool_commands.proofs.several.explain_texts.Goals as goal
 
 pub loop-file-init : goal.loop-file-init
 loop-file-init g c = (
-  subst (λ (t : Together). AreTaken c.args.is_painted c.args.extent c.args.rendering (g.H.Host.sources (held c.args.host.now)).file [] t) (sym c.new-traces.ensures) none,
+  subst (λ (t : Together). AreTaken (style c.args.is_painted c.args.extent c.args.rendering) (g.H.Host.sources (held c.args.host.now)).file [] t) (sym c.new-traces.ensures) none,
   c.requires,
   refl,
   λ lacking. lacking,
@@ -25,10 +25,10 @@ loop-file-preserved g c =
     let called : c.as_str.result.now ≡ string_bytes c.file-item.result = search rules in
     let same = c.loop-file.invariant.2 in
     let took = c.in_ok-told.ensures.ok in (
-      taken_more string_bytes c.args.files.now c.loop-file.file-index c.file-item.result c.as_str.result.now c.args.is_painted c.args.extent c.args.rendering
+      taken_more string_bytes c.args.files.now c.loop-file.file-index c.file-item.result c.as_str.result.now (style c.args.is_painted c.args.extent c.args.rendering)
           (g.H.Host.sources (held c.args.host.now)).file (g.H.Host.sources (held c.loop-file.host)).file took.0 (together_of c.loop-file.traces)
           (together_of c.take_file.new.traces) below read called (ap (λ h. (g.H.Host.sources h).file) same) c.loop-file.invariant.0
-          (subst (λ (t : Option (Vec ℕ)). TakesReading (manner_in c.args.is_painted c.args.extent c.args.rendering c.as_str.result.now)
+          (subst (λ (t : Option (Vec ℕ)). TakesReading (manner_in (style c.args.is_painted c.args.extent c.args.rendering) c.as_str.result.now)
           (reading ((g.H.Host.sources (held c.loop-file.host)).file c.as_str.result.now) took.0) (together_of c.loop-file.traces)
           (together_of c.take_file.new.traces) t) c.in_default.is took.1),
       c.in_ok-told.ensures.stands,
@@ -43,7 +43,7 @@ returns-in_err-told-clause-fault g c =
     let read : c.file-item.result ≡ get_or c.args.files.now c.loop-file.file-index c.file-item.result = first_of (search rules, grind (arith, common_steps)) in
     let called : c.as_str.result.now ≡ string_bytes c.file-item.result = search rules in
     let gone = err_from_is_err_and c.from_residual.result c.from_residual.ensures.1 in
-    rw (gone.1, gone.2) (stops_at string_bytes c.args.files.now c.loop-file.file-index c.file-item.result c.as_str.result.now c.args.is_painted c.args.extent c.args.rendering
+    rw (gone.1, gone.2) (stops_at string_bytes c.args.files.now c.loop-file.file-index c.file-item.result c.as_str.result.now (style c.args.is_painted c.args.extent c.args.rendering)
     (g.H.Host.sources (held c.args.host.now)).file (g.H.Host.sources (held c.loop-file.host)).file c.in_err-told.ensures.fault.0
     (together_of c.loop-file.traces) c.in_err-told.field-0.0 below read called (ap (λ h. (g.H.Host.sources h).file) c.loop-file.invariant.2)
     c.loop-file.invariant.0 c.in_err-told.ensures.fault.1)
@@ -65,10 +65,10 @@ returns-in-Some-clause-ok g c =
     let read : c.file-item.result ≡ get_or c.args.files.now c.loop-file.file-index c.file-item.result = first_of (search rules, grind (arith, common_steps)) in
     let called : c.as_str.result.now ≡ string_bytes c.file-item.result = search rules in
     let took = c.in_ok-told.ensures.ok in
-    faulty_at string_bytes c.args.files.now c.loop-file.file-index c.file-item.result c.as_str.result.now c.args.is_painted c.args.extent c.args.rendering
+    faulty_at string_bytes c.args.files.now c.loop-file.file-index c.file-item.result c.as_str.result.now (style c.args.is_painted c.args.extent c.args.rendering)
     (g.H.Host.sources (held c.args.host.now)).file (g.H.Host.sources (held c.loop-file.host)).file took.0 (together_of c.loop-file.traces)
     (together_of c.take_file.new.traces) c.in-Some.told below read called (ap (λ h. (g.H.Host.sources h).file) c.loop-file.invariant.2) c.loop-file.invariant.0
-    (subst (λ (t : Option (Vec ℕ)). TakesReading (manner_in c.args.is_painted c.args.extent c.args.rendering c.as_str.result.now)
+    (subst (λ (t : Option (Vec ℕ)). TakesReading (manner_in (style c.args.is_painted c.args.extent c.args.rendering) c.as_str.result.now)
     (reading ((g.H.Host.sources (held c.loop-file.host)).file c.as_str.result.now) took.0) (together_of c.loop-file.traces)
     (together_of c.take_file.new.traces) t) c.in-Some.is took.1)
 
