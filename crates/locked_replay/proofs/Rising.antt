@@ -34,12 +34,21 @@ some_there [] at low = absurd (omega (arith, low))
 some_there (r ∷ rs) zero low = (r, refl)
 some_there (r ∷ rs) (suc at) low = some_there rs at (omega (arith, low))
 
+-- the number of the receipt before a place, if there is one
+abbrev pub IsBefore : List Receipt → ℕ → ℕ → Type 0
+IsBefore rs at number = 0 < at → (d : Receipt) → (get_or rs (at - 1) d).number ≡ number
+
+pub before_next : (rs : List Receipt) (at number : ℕ) → ((d : Receipt) → (get_or rs at d).number ≡ number) → IsBefore rs (at + 1) number
+before_next rs at number is positive d =
+    let same : at ≡ at + 1 - 1 = omega arith in
+    subst (λ i. (get_or rs i d).number ≡ number) same (is d)
+
 -- the receipt at a place rises where its number is greater than the one before
-pub rises_told : (rs : List Receipt) (at before here : ℕ) → at < length rs → ((d : Receipt) → (get_or rs (at - 1) d).number ≡ before) →
-    ((d : Receipt) → (get_or rs at d).number ≡ here) → (before < here → RisesAt rs at) × (0 < at → RisesAt rs at → before < here)
+pub rises_told : (rs : List Receipt) (at before here : ℕ) → at < length rs → IsBefore rs at before →
+    ((d : Receipt) → (get_or rs at d).number ≡ here) → ((0 < at → before < here) → RisesAt rs at) × (RisesAt rs at → 0 < at → before < here)
 rises_told rs at before here low one next = (
-  (λ less positive d. omega (arith, less, one d, next d)),
-  (λ positive rises. let r = (some_there rs at low).0 in omega (arith, one r, next r, rises positive r)),
+  (λ less positive d. omega (arith, less positive, one positive d, next d)),
+  (λ rises positive. let r = (some_there rs at low).0 in omega (arith, one positive r, next r, rises positive r)),
 )
 
 -- whether the receipt at a place is of the entry at another
