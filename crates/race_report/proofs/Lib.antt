@@ -4,4 +4,5 @@ pub mod CleanRuns
 pub mod JudgedRuns
 pub mod Schedules
 pub mod RefusalValues
+pub mod ItemTexts
 pub mod ReportTexts

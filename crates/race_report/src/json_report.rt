@@ -1,54 +1,68 @@
 //! The report of a run.
 
-ghost use Rattle.std.specs.Prelude.{◌≡◌, ◌<◌, ◌≤◌, ◌↔◌, ◌++◌, List, [], true, false, codes, length, map, reverse, string_bytes, IfOk, OnOk, IsTrue, IsSome};
-ghost use Rattle.std.specs.Option.{option_to_list};
+ghost use Rattle.std.specs.Prelude.{◌≡◌, ◌<◌, ◌≤◌, ◌↔◌, ◌++◌, List, [], true, false, codes, length, map, reverse, IfOk, IsTrue, IsSome};
+ghost use Rattle.std.specs.Option.{option_map};
 ghost use Rattle.serde_json.specs.Data.{Data, number, unsigned};
 ghost use Rattle.serde_json.specs.View.{view, items_of};
-ghost use Rattle.serde_json.specs.Written.{has_float, comma_if, compact_text, items_text};
+ghost use Rattle.serde_json.specs.Written.{has_float, compact_text, items_text};
 ghost use Rattle.text_words.specs.Declarations.{cells_of};
+ghost use Rattle.trace_text.specs.Shapes.{is_numbered, name_of_cell};
 ghost use Rattle.program_text.specs.Programs.{contents};
 ghost use Rattle.model_histories.specs.Shapes.{IsInRange};
 ghost use Rattle.model_histories.specs.Extensions.{IsClean};
 ghost use Rattle.verdict_lines.specs.VerdictText.{kind_asked};
 ghost use Rattle.race_report.specs.Refusals.{name_asked, line_of_entry, answer_told, refusals_told};
-ghost use Rattle.race_report.specs.RefusalValues.{refusal_in};
+ghost use Rattle.race_report.specs.RefusalValues.{name_text, refusal_in};
 ghost use Rattle.race_report.specs.ReportText.{cells_told, memory_told, report_with, report_text};
 ghost use Rattle.race_report.specs.Conditions.{shape_known, IsTellable, AreTellable};
 
-use crate::refusal::{LinedWitness, Refusal};
+use crate::printer::Printer;
+use crate::refusal::{AskedName, LinedWitness, Refusal};
 use locked_replay::{Entries, Whole};
 use model_accesses::Witness;
 use program_text::Program;
 use race_gate::{Answer, Entry};
-use serde_json::{Map, Value, json, put, to_vec};
+use serde_json::{Map, Value, json, put};
 use std::alloc::{AllocError, Allocator, Global};
 use text_words::{Act, Mem};
-use trace_text::cell_name;
+use trace_text::memory_at;
 use verdict_lines::rule_of_refusal;
 
+/// The name of the cell with this number.
+#[inline(always)]
+fn name_of_cell<'a>(alloc: Global, mems: &'a [Mem], location: u32) -> AskedName<'a>
+    requires numbered { IsTrue (is_numbered 0 mems.now) }
+    requires within { location < cells_of mems.now }
+    ensures { name_text result ≡ name_of_cell mems.now location }
+{
+    match memory_at(mems, location) {
+        Some(mem) if mem.array => AskedName::Element(alloc, mem.name.as_str(), location - mem.first),
+        Some(mem) => AskedName::Whole(mem.name.as_str()),
+        None => unreachable!(),
+    }
+}
+
 /// The name of the cell or the reducer that an act asks for.
-fn name_of<A: Allocator>(
-    alloc: Global,
-    program: &Program<A>,
-    act: Act,
-) -> Result<String, AllocError>
+#[inline(always)]
+fn name_of<'a, A: Allocator>(alloc: Global, program: &'a Program<A>, act: Act) -> AskedName<'a>
     requires access { IsSome (kind_asked act) }
     requires within { IsInRange (shape_known (contents program.now).known) act }
-    ensures { IfOk result (λ name. string_bytes name ≡ name_asked (contents program.now).known act) }
+    ensures { name_text result ≡ name_asked (contents program.now).known act }
 {
     match act {
         Act::Read(cell) | Act::Write(cell, _) | Act::Bump(cell, _) => {
-            cell_name(alloc, program.mems.as_slice(), cell)
+            name_of_cell(alloc, program.mems.as_slice(), cell)
         }
         Act::Update(reducer, _) | Act::Put(reducer, _) | Act::Get(reducer) => {
             let reducers = program.reducers.as_slice();
-            String::from_str(alloc, reducers[reducer as usize].name.as_str())
+            AskedName::Whole(reducers[reducer as usize].name.as_str())
         }
         Act::Spawn | Act::Sync | Act::Call | Act::Return => unreachable!(),
     }
 }
 
 /// The line of the entry with this number.
+#[inline(always)]
 fn line_of_entry<A: Allocator>(entries: &Entries<A>, number: u32) -> u32
     requires first { 0 < number }
     requires last { number ≤ length entries.now.items }
@@ -58,6 +72,7 @@ fn line_of_entry<A: Allocator>(entries: &Entries<A>, number: u32) -> u32
 }
 
 /// The witness of a refusal, with the line of its entry.
+#[inline(always)]
 fn with_line<A: Allocator>(entries: &Entries<A>, witness: Witness) -> LinedWitness
     requires first { 0 < witness.entry }
     requires last { witness.entry ≤ length entries.now.items }
@@ -70,47 +85,18 @@ fn with_line<A: Allocator>(entries: &Entries<A>, witness: Witness) -> LinedWitne
     }
 }
 
-/// The text of a refusal.
-fn refusal_text(alloc: Global, refusal: &Refusal<'_>) -> Result<Vec<u8>, AllocError>
-    ensures { IfOk result (λ text. text.items ≡ compact_text (refusal_in refusal.now)) }
-{
-    // A refusal has nothing that JSON has no text for, so this fails only for want of memory.
-    match to_vec(alloc, refusal) {
-        Ok(text) => Ok(text),
-        Err(_) => Err(AllocError),
-    }
-}
-
-/// Adds a refusal, behind a comma where others stand before it.
-fn push_refusal(
+/// What is told of the entry with this number, where it is a refusal.
+#[inline(always)]
+fn refusal_of<'a, A: Allocator, B: Allocator>(
     alloc: Global,
-    text: &mut Vec<u8>,
-    refusal: &Refusal<'_>,
-    later: bool,
-) -> Result<(), AllocError>
-    ensures { OnOk result (text.new.items ≡ text.old.items ++ (comma_if later ++ compact_text (refusal_in refusal.now))) }
-{
-    if later {
-        text.push(b',')?;
-    }
-    let told = refusal_text(alloc, refusal)?;
-    text.extend_from_slice(told.as_slice())
-}
-
-/// Adds what is told of the entry with this number, where it is a refusal, behind others where there are some. It says whether there are
-/// some now.
-fn push_entry<A: Allocator, B: Allocator>(
-    alloc: Global,
-    text: &mut Vec<u8>,
-    program: &Program<A>,
+    program: &'a Program<A>,
     entries: &Entries<B>,
     number: usize,
     entry: Entry,
-    later: bool,
-) -> Result<bool, AllocError>
+) -> Option<Refusal<'a>>
     requires { IsTellable (shape_known (contents program.now).known) (length entries.now.items) entry }
-    ensures { IfOk result (λ some. (rest : List Data) → text.new.items ++ items_text some (items_of rest) ≡ text.old.items ++ items_text later
-        (items_of (option_to_list (answer_told (contents program.now).known entries.now.items number entry.request entry.answer) ++ rest))) }
+    ensures { option_map refusal_in result
+        ≡ answer_told (contents program.now).known entries.now.items number entry.request entry.answer }
 {
     let request = entry.request;
     let (rule, witness) = match entry.answer {
@@ -119,36 +105,34 @@ fn push_entry<A: Allocator, B: Allocator>(
             Some(with_line(entries, witness)),
         ),
         Answer::Unset => ("unset", None),
-        _ => return Ok(later),
+        _ => return None,
     };
-    let name = name_of(alloc, program, request.act)?;
-    let refusal = Refusal {
+    Some(Refusal {
         number,
         request,
-        name: name.as_str(),
+        name: name_of(alloc, program, request.act),
         rule,
         witness,
-    };
-    push_refusal(alloc, text, &refusal, later)?;
-    Ok(true)
+    })
 }
 
 /// Adds the refusals among these entries, in order, and the bracket behind them.
 fn push_refusals<A: Allocator, B: Allocator>(
     alloc: Global,
-    text: &mut Vec<u8>,
+    text: Vec<u8>,
     program: &Program<A>,
     entries: &Entries<B>,
-) -> Result<(), AllocError>
+) -> Result<Vec<u8>, AllocError>
     requires { AreTellable (shape_known (contents program.now).known) entries.now.items }
-    ensures { OnOk result (text.new.items ≡ text.old.items ++
+    ensures { IfOk result (λ told. told.items ≡ text.items ++
         items_text false (items_of (refusals_told (contents program.now).known entries.now.items))) }
 {
-    let mut some = false;
+    let mut printer = Printer::new(alloc, text)?;
     for at in 0..entries.len() {
-        some = push_entry(alloc, text, program, entries, at + 1, entries.get(at), some)?;
+        let refusal = refusal_of(alloc, program, entries, at + 1, entries.get(at));
+        printer.push(alloc, refusal)?;
     }
-    Ok(text.push(b']')?)
+    printer.finish(alloc)
 }
 
 /// Numbers as values.
@@ -246,8 +230,8 @@ pub fn report<A: Allocator, B: Allocator>(
     if whole.clean {
         return clean_value(alloc, entries, memory)?.to_vec(alloc);
     }
-    let mut text = open_text(alloc, entries, memory)?;
-    push_refusals(alloc, &mut text, program, &whole.entries)?;
+    let text = open_text(alloc, entries, memory)?;
+    let mut text = push_refusals(alloc, text, program, &whole.entries)?;
     text.push(b'}')?;
     Ok(text)
 }

@@ -7,6 +7,7 @@
 
 mod json_report;
 pub mod laws;
+mod printer;
 mod refusal;
 
 pub use json_report::report;

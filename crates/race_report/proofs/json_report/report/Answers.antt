@@ -61,6 +61,6 @@ returns g c =
     let as_racy : report_with clean count memory refusals ≡ report_with false count memory refusals =
     ap (λ (is : Bool). report_with is count memory refusals) c.if-whole.false in
     let ended : c.push.new.self.items ≡ (c.in_ok-text.text.items ++ items_text false (items_of refusals)) ++ codes "}" =
-    c.in_ok-push.ensures.items ∙ ap (λ (text : List ℕ). text ++ codes "}") c.in_ok-push_refusals.ensures in
+    c.in_ok-push.ensures.items ∙ ap (λ (text : List ℕ). text ++ codes "}") c.in_ok-text-2.ensures in
     ended ∙ append_assoc c.in_ok-text.text.items (items_text false (items_of refusals)) (codes "}") ∙ c.in_ok-text.ensures refusals ∙
     ap compact_text (sym as_racy ∙ told)
