@@ -1,6 +1,7 @@
--- Lists in the other order.
-use Rattle.std.proofs.Common.{◌≡◌, ◌<◌, ◌-◌, ℕ, List, length, get_or, reverse, sym, ap, subst, ◌∙◌, arith}
-use Rattle.std.specs.List.{All}
+-- Lists in the other order, and the items from a place on.
+use Rattle.std.proofs.Common.{◌≡◌, ◌<◌, ◌+◌, ◌-◌, ℕ, zero, suc, List, [], ◌∷◌, Some, length, drop, drop-cons, add-one, get_or, reverse, refl, sym, ap, subst, ◌∙◌, arith}
+use Rattle.std.specs.List.{All, slice_get}
+use Rattle.std.proofs.lemmas.Option.{slice_get_within, get_or_from_slice_get}
 use Rattle.std.proofs.lemmas.List.{length-reverse, get_or-reverse}
 
 -- what is true of each in the other order is true of each
@@ -17,3 +18,18 @@ all_reverses P xs all k d below =
     let within : k < length xs = omega (arith, length-reverse xs) in
     let other : length xs - 1 - k < length xs = omega arith in
     subst P (sym (get_or-reverse xs k d within)) (all (length xs - 1 - k) d other)
+
+item_at : {X : Type 0} (xs : List X) (at : ℕ) → at < length xs → (x : X) × (slice_get xs at ≡ Some x)
+item_at [] at low = absurd (omega (arith, low))
+item_at (x ∷ xs) zero low = (x, refl)
+item_at (x ∷ xs) (suc at) low = item_at xs at (omega (arith, low))
+
+-- there is an item at each place, before those behind it
+pub item_there : {X : Type 0} (xs : List X) (at : ℕ) → at < length xs → (x : X) × (slice_get xs at ≡ Some x) × (drop at xs ≡ x ∷ drop (at + 1) xs)
+item_there {X} xs at low =
+    let there = item_at xs at low in
+    let x : X = there.0 in
+    let next : drop at xs ≡ x ∷ drop (at + 1) xs =
+    rw (add-one)
+    (drop-cons xs at x (slice_get_within xs at x there.1) ∙ ap (λ (one : X). one ∷ drop (suc at) xs) (get_or_from_slice_get xs at x x there.1)) in
+    (x, there.1, next)

@@ -1,6 +1,6 @@
 //! The report of a run.
 
-ghost use Rattle.std.specs.Prelude.{◌≡◌, ◌<◌, ◌≤◌, ◌↔◌, ◌++◌, List, [], true, false, codes, length, map, reverse, IfOk, IsTrue, IsSome};
+ghost use Rattle.std.specs.Prelude.{◌≡◌, ◌<◌, ◌≤◌, ◌↔◌, ◌+◌, ◌++◌, List, [], true, false, codes, length, map, reverse, slice_get, Some, IfOk, IsTrue, IsSome};
 ghost use Rattle.std.specs.Option.{option_map};
 ghost use Rattle.serde_json.specs.Data.{Data, number, unsigned};
 ghost use Rattle.serde_json.specs.View.{view, items_of};
@@ -8,8 +8,9 @@ ghost use Rattle.serde_json.specs.Written.{has_float, compact_text, items_text};
 ghost use Rattle.text_words.specs.Declarations.{cells_of};
 ghost use Rattle.trace_text.specs.Shapes.{is_numbered, name_of_cell};
 ghost use Rattle.program_text.specs.Programs.{contents};
+ghost use Rattle.model_histories.specs.declared.answer.Entry.{Entry as OneEntry};
 ghost use Rattle.model_histories.specs.Shapes.{IsInRange};
-ghost use Rattle.model_histories.specs.Extensions.{IsClean};
+ghost use Rattle.model_histories.specs.Extensions.{IsCleanAnswer, IsClean};
 ghost use Rattle.verdict_lines.specs.VerdictText.{kind_asked};
 ghost use Rattle.race_report.specs.Refusals.{name_asked, line_of_entry, answer_told, refusals_told};
 ghost use Rattle.race_report.specs.RefusalValues.{name_text, refusal_in};
@@ -36,7 +37,11 @@ fn name_of_cell<'a>(alloc: Global, mems: &'a [Mem], location: u32) -> AskedName<
     ensures { name_text result ≡ name_of_cell mems.now location }
 {
     match memory_at(mems, location) {
-        Some(mem) if mem.array => AskedName::Element(alloc, mem.name.as_str(), location - mem.first),
+        Some(mem) if mem.array => AskedName::Element(
+            alloc,
+            mem.name.as_str(),
+            location - mem.first,
+        ),
         Some(mem) => AskedName::Whole(mem.name.as_str()),
         None => unreachable!(),
     }
@@ -116,6 +121,35 @@ fn refusal_of<'a, A: Allocator, B: Allocator>(
     })
 }
 
+/// Whether an answer is a refusal.
+#[inline(always)]
+fn is_refusal(answer: Answer) -> bool
+    ensures { result ≡ false → IsCleanAnswer answer }
+{
+    matches!(answer, Answer::Refused { .. } | Answer::Unset)
+}
+
+/// What is told of the entry at this place, which has this number, where it is a refusal. Of other entries nothing but the answer is unpacked.
+#[inline(always)]
+fn refusal_at<'a, A: Allocator, B: Allocator>(
+    alloc: Global,
+    program: &'a Program<A>,
+    entries: &Entries<B>,
+    at: usize,
+    number: usize,
+) -> Option<Refusal<'a>>
+    requires number { number ≡ at + 1 }
+    requires tellable { AreTellable (shape_known (contents program.now).known) entries.now.items }
+    requires there { at < length entries.now.items }
+    ensures { (entry : OneEntry) → slice_get entries.now.items at ≡ Some entry → option_map refusal_in result
+        ≡ answer_told (contents program.now).known entries.now.items number entry.request entry.answer }
+{
+    if !is_refusal(entries.get(at).answer) {
+        return None;
+    }
+    refusal_of(alloc, program, entries, number, entries.get(at))
+}
+
 /// Adds the refusals among these entries, in order, and the bracket behind them.
 fn push_refusals<A: Allocator, B: Allocator>(
     alloc: Global,
@@ -129,7 +163,7 @@ fn push_refusals<A: Allocator, B: Allocator>(
 {
     let mut printer = Printer::new(alloc, text)?;
     for at in 0..entries.len() {
-        let refusal = refusal_of(alloc, program, entries, at + 1, entries.get(at));
+        let refusal = refusal_at(alloc, program, entries, at, at + 1);
         printer.push(alloc, refusal)?;
     }
     printer.finish(alloc)

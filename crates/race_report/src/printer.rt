@@ -12,7 +12,7 @@ use serde_json::to_vec;
 use std::alloc::{AllocError, Global};
 
 /// How many refusals are printed at once: few texts are made, and each is short enough to be copied from the nearest cache.
-const MANY: usize = 30;
+const MANY: usize = 32;
 
 /// A text with the items of an array, and the refusals that are its next items.
 #[derive(Drop)]

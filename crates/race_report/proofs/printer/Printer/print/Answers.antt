@@ -9,12 +9,11 @@ use Rattle.race_report.proofs.printer.Printer.print.Goals as goal
 
 pub push_items-requires : goal.push_items-requires
 push_items-requires c =
-    let refusals = c.args.self.now.next.items in
-    (
+    let refusals = c.args.self.now.next.items in (
       inner_text false (map refusal_in refusals),
       c.as_slice-2.ensures.value ∙ c.in_ok-told.ensures ∙
-      ap (λ (told : List Refusal). compact_text (array (items_of (map refusal_in told)))) c.as_slice.ensures.value ∙
-      array_text (map refusal_in refusals),
+          ap (λ (told : List Refusal). compact_text (array (items_of (map refusal_in told)))) c.as_slice.ensures.value ∙
+          array_text (map refusal_in refusals),
     )
 
 pub returns-clause-text : goal.returns-clause-text
