@@ -1,5 +1,5 @@
 -- A run has no refusals to tell exactly where it is clean.
-use Rattle.std.proofs.Common.{◌≡◌, ℕ, ◌+◌, Bool, true, false, Option, None, List, [], ◌∷◌, ◌++◌, reverse, refl}
+use Rattle.std.proofs.Common.{◌≡◌, ℕ, ◌+◌, Bool, true, false, List, [], ◌∷◌, ◌++◌, reverse, refl}
 use Rattle.std.specs.Prelude.{◌↔◌, IsTrue}
 use Rattle.std.specs.Option.{option_to_list}
 use Rattle.std.proofs.lemmas.List.Elements.{All-nil, All-cons, All-head, All-tail}
@@ -25,13 +25,6 @@ answer_clean : (known : Known) (all : List Entry) (number : ℕ) (request : Requ
 answer_clean known all number request (Refused rule witness) rest none = absurd cc
 answer_clean known all number request Unset rest none = absurd cc
 answer_clean known all number request answer rest none = (tt, none)
-
--- of a clean answer nothing is told
-pub clean_untold : (known : Known) (all : List Entry) (number : ℕ) (request : Request) (answer : Answer) → IsCleanAnswer answer →
-    None ≡ answer_told known all number request answer
-clean_untold known all number request (Refused rule witness) clean = absurd clean
-clean_untold known all number request Unset clean = absurd clean
-clean_untold known all number request answer clean = refl
 
 clean_behind : (known : Known) (all : List Entry) (before : ℕ) (rest : List Entry) → IsClean rest → is_clean (refusals_behind known all before rest) ≡ true
 clean_behind known all before [] clean = refl

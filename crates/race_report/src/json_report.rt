@@ -129,7 +129,7 @@ fn is_refusal(answer: Answer) -> bool
     matches!(answer, Answer::Refused { .. } | Answer::Unset)
 }
 
-/// What is told of the entry at this place, which has this number, where it is a refusal. Of other entries nothing but the answer is unpacked.
+/// What is told of the entry at this place, which has this number, where it is a refusal. Of another entry only the answer is unpacked.
 #[inline(always)]
 fn refusal_at<'a, A: Allocator, B: Allocator>(
     alloc: Global,

@@ -11,7 +11,7 @@ use model_accesses::Witness;
 use serde::{Described, Serialize, Serializer};
 use std::alloc::{AllocError, Global};
 use std::fmt::Write;
-use text_words::{Mem, Request};
+use text_words::Request;
 
 /// The name of what a request asks for. The text of the name of an array's element is made only where it is printed.
 #[derive(Clone, Copy)]
@@ -72,6 +72,7 @@ impl Described for LinedWitness {
     ghost writes = { λ lined. SendsValue (witness_told lined.line lined.witness) };
 }
 
+// A `u32` is sent as a `u64` here, since its `serialize` would be a call of its own.
 impl Serialize for LinedWitness {
     fn serialize<S: Serializer>(&self, out: &mut S) -> Result<(), S::Error> {
         out.begin_map(Some(3))?;
