@@ -95,7 +95,7 @@ abbrev pub rounds_words : Origin → List ℕ
 rounds_words (in_program file source functions) =
     codes "rounds of one `pfor` are never ordered: give each a cell of its own, or use a reducer"
 rounds_words (in_trace notes) =
-    codes "what is spawned here again and again is never ordered: give each a place of its own, or use a reducer"
+    codes "what is spawned here again and again is not ordered: give each a place of its own, or use a reducer"
 
 -- what a function does, where it is known
 abbrev pub doing_word : Option (List ℕ) → List ℕ

@@ -135,7 +135,7 @@ fn rounds_words(scene: &Scene<'_, '_>) -> &'static str
             "rounds of one `pfor` are never ordered: give each a cell of its own, or use a reducer"
         }
         Origin::Trace { .. } => {
-            "what is spawned here again and again is never ordered: give each a place of its own, or use a reducer"
+            "what is spawned here again and again is not ordered: give each a place of its own, or use a reducer"
         }
     }
 }

@@ -103,7 +103,7 @@ pub(super) const ROUNDS: &str =
 
 const ROUNDS_TOLD: &str =
     "2 pairs of places part at one spawn: what is spawned at line 4 runs beside what the spawner does from line 6 on
-   = help: what is spawned here again and again is never ordered: give each a place of its own, or use a reducer
+   = help: what is spawned here again and again is not ordered: give each a place of its own, or use a reducer
    = help: a `sync` in the spawner before line 6 may order them
 
 race: write-write on x, 1 time
