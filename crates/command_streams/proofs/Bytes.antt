@@ -11,7 +11,7 @@ use Rattle.command_streams.specs.declared.fault.CliFault.{CliFault}
 use Rattle.command_streams.specs.declared.fault.CliFault.TheVariants.{Read, TooLong, Memory, Trace}
 use Rattle.command_streams.specs.Faults.{fault_of_text}
 use Rattle.command_streams.specs.Watched.{one_more, count_after, IsCalledAtMost}
-use Rattle.command_streams.specs.Streams.{most_bytes, most_reads, IsRead, IsFaultOf, TakesPiece, TakesPieces, StopsPiece, StopsReading, StopsTrace}
+use Rattle.command_streams.specs.Streams.{most_bytes, most_reads, IsRead, IsFaultOf, buffered, TakesPiece, TakesPieces, StopsPiece, StopsReading, StopsTrace}
 
 -- nothing was read
 pub consumes-none : (known : Option (List ℕ)) → Consumes known known []
@@ -97,8 +97,8 @@ called_within most few before after all one = called most before after one.calls
 
 module _ (first between last : Option (List ℕ)) (done : ℕ) (old now : List ℕ) where
   -- pieces and one more
-  pub pieces_more : (size : ℕ) (new : List ℕ) (more : Bool) → TakesPieces first between done 0 old now true → TakesPiece between last done now new more
-      → (more ≡ true → size ≤ length new) → TakesPieces first last done size old new more
+  pub pieces_more : (size : ℕ) (new : List ℕ) (more : Bool) → TakesPieces done 0 (buffered first old) (buffered between now) true
+      → TakesPiece done (buffered between now) (buffered last new) more → (more ≡ true → size ≤ length new) → TakesPieces done size (buffered first old) (buffered last new) more
   pieces_more size new more taken piece reached = record {
     pieces = taken.pieces ++ piece.piece;
     taken = consumes-more first between last taken.pieces piece.piece taken.taken piece.taken;
@@ -108,14 +108,14 @@ module _ (first between last : Option (List ℕ)) (done : ℕ) (old now : List �
     end = piece.end;
   }
 
-  pub pieces_on : (new : List ℕ) (more : Bool) → TakesPieces first between done 0 old now true → TakesPiece between last done now new more → more ≡ true
-      → TakesPieces first last done 0 old new true
+  pub pieces_on : (new : List ℕ) (more : Bool) → TakesPieces done 0 (buffered first old) (buffered between now) true
+      → TakesPiece done (buffered between now) (buffered last new) more → more ≡ true → TakesPieces done 0 (buffered first old) (buffered last new) true
   pieces_on new more taken piece is =
-      subst (λ (b : Bool). TakesPieces first last done 0 old new b) is (pieces_more 0 new more taken piece (λ _. omega arith))
+      subst (λ (b : Bool). TakesPieces done 0 (buffered first old) (buffered last new) b) is (pieces_more 0 new more taken piece (λ _. omega arith))
 
   -- and each piece has a byte
-  pub pieces_called : (new : List ℕ) (more : Bool) (before called calls : ℕ) → TakesPieces first between done 0 old now true → TakesPiece between last done now new more → more ≡ true
-      → IsCalledAtMost (length now - length old) before called → calls ≡ one_more called → IsCalledAtMost (length new - length old) before calls
+  pub pieces_called : (new : List ℕ) (more : Bool) (before called calls : ℕ) → TakesPieces done 0 (buffered first old) (buffered between now) true
+      → TakesPiece done (buffered between now) (buffered last new) more → more ≡ true → IsCalledAtMost (length now - length old) before called → calls ≡ one_more called → IsCalledAtMost (length new - length old) before calls
   pieces_called new more before called calls taken piece is few one =
       let some = piece.some is in
       let long = ap length taken.added ∙ length-append old taken.pieces in
@@ -123,14 +123,15 @@ module _ (first between last : Option (List ℕ)) (done : ℕ) (old now : List �
       called_both _ _ 1 before called calls (omega (arith, some, long, longer)) few (called_once called calls one)
 
   -- so a reader is asked no more often than it may be
-  pub piece_called : (before called calls : ℕ) → TakesPieces first between done 0 old now true
+  pub piece_called : (before called calls : ℕ) → TakesPieces done 0 (buffered first old) (buffered between now) true
       → IsCalledAtMost (length now - length old) before called → calls ≡ one_more called → IsCalledAtMost (most_reads - (done + length old)) before calls
   piece_called before called calls taken few one =
       let long = ap length taken.added ∙ length-append old taken.pieces in
       called_both _ _ 1 before called calls (omega (arith, long, taken.short)) few (called_once called calls one)
 
   -- why one more piece is not added
-  pub pieces_stop : (fault : CliFault) → TakesPieces first between done 0 old now true → StopsPiece between last done now fault → StopsPiece first last done old fault
+  pub pieces_stop : (fault : CliFault) → TakesPieces done 0 (buffered first old) (buffered between now) true
+      → StopsPiece between last done now fault → StopsPiece first last done old fault
   pieces_stop Read taken stops = tt
   pieces_stop Memory taken stops = tt
   pieces_stop TooLong taken stops = (
@@ -143,7 +144,8 @@ module _ (first between last : Option (List ℕ)) (done : ℕ) (old now : List �
   pieces_stop fault taken stops = absurd stops
 
 -- no piece was read
-pub pieces_none : (known : Option (List ℕ)) (done : ℕ) (text : List ℕ) → done + length text ≤ most_bytes → TakesPieces known known done 0 text text true
+pub pieces_none : (known : Option (List ℕ)) (done : ℕ) (text : List ℕ) → done + length text ≤ most_bytes →
+    TakesPieces done 0 (buffered known text) (buffered known text) true
 pieces_none known done text short = record {
   pieces = [];
   taken = consumes-none known;
@@ -154,12 +156,14 @@ pieces_none known done text short = record {
 }
 
 -- so many bytes were read
-pub pieces_reached : (first last : Option (List ℕ)) (done size : ℕ) (old new : List ℕ) → size ≤ length new → TakesPieces first last done 0 old new true → TakesPieces first last done size old new true
+pub pieces_reached : (first last : Option (List ℕ)) (done size : ℕ) (old new : List ℕ) → size ≤ length new →
+    TakesPieces done 0 (buffered first old) (buffered last new) true → TakesPieces done size (buffered first old) (buffered last new) true
 pieces_reached first last done size old new long taken =
     record { pieces = taken.pieces; taken = taken.taken; added = taken.added; short = taken.short; reached = λ _. long; end = λ e. cc }
 
 -- all was read
-pub pieces_all : (first last : Option (List ℕ)) (old new : List ℕ) (more : Bool) → TakesPieces first last 0 (most_bytes + 1) old new more → old ≡ [] → IsRead first last new
+pub pieces_all : (first last : Option (List ℕ)) (old new : List ℕ) (more : Bool) →
+    TakesPieces 0 (most_bytes + 1) (buffered first old) (buffered last new) more → old ≡ [] → IsRead first last new
 pieces_all first last old new true taken none = absurd (omega (arith, taken.short, taken.reached refl))
 pieces_all first last old new false taken none = record {
   taken = subst (λ (bytes : List ℕ). Consumes first last bytes) (sym (taken.added ∙ ap (λ (bytes : List ℕ). bytes ++ taken.pieces) none)) taken.taken;

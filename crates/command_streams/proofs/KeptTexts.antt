@@ -15,53 +15,52 @@ use Rattle.trace_text.proofs.PlainPieces.{takes_both}
 use Rattle.command_streams.specs.declared.fault.CliFault.{CliFault}
 use Rattle.command_streams.specs.declared.kept.Behind.{Behind}
 use Rattle.command_streams.specs.Watched.{IsCalledAtMost}
-use Rattle.command_streams.specs.Streams.{most_reads, TakesPieces, StopsPiece}
-use Rattle.command_streams.specs.PlainTexts.{rejoined, IsPlainText, ReadsRequests, IsReadFrom, StopsReadingFrom, StopsPlain}
+use Rattle.command_streams.specs.Streams.{most_reads, buffered, TakesPieces, StopsPiece}
+use Rattle.command_streams.specs.PlainTexts.{rejoined, IsPlainText, Progress, progress, ReadsRequests, IsReadFrom, StopsReadingFrom, StopsPlain}
 use Rattle.command_streams.specs.KeptTexts.{restored, HasReadRequests, IsReadBehind}
 use Rattle.command_streams.proofs.Bytes.{consumes-none, consumes-more, stops_reading, called_both, called_within}
 
 -- ---- plain lines, one piece after another
 
 -- nothing was read yet
-pub plain_first : {A : Type 0} (old : BegunTrace A) (done : ℕ) (waited : List ℕ) (before : Option (List ℕ)) → ReadsRequests old done waited before before done old waited
-plain_first old done waited before = record {
+pub plain_first : {A : Type 0} (old : Progress A) → ReadsRequests old old
+plain_first old = record {
   front = [];
   takes = record {
-    begun = λ done begun. subst (λ (bytes : List ℕ). IsBegun bytes old) (sym (append-nil done)) begun;
+    begun = λ done begun. subst (λ (bytes : List ℕ). IsBegun bytes old.begun) (sym (append-nil done)) begun;
     known = refl;
     requests = [];
-    added = sym (append-nil old.draft.lines);
+    added = sym (append-nil old.begun.draft.lines);
     plain = refl;
   };
   counted = omega arith;
   more = [];
-  taken = consumes-none before;
-  whole = append-nil waited;
+  taken = consumes-none old.left;
+  whole = append-nil old.waiting;
 }
 
-module _ {A : Type 0} (old : BegunTrace A) (done : ℕ) (waited : List ℕ) (before now : Option (List ℕ)) (count : ℕ) (begun : BegunTrace A) (waiting : List ℕ)
-    (on : ReadsRequests old done waited before now count begun waiting) where
+module _ {A : Type 0} (old now : Progress A) (on : ReadsRequests old now) where
   -- more was read
-  pub plain_read : (next : Option (List ℕ)) (size : ℕ) (new : List ℕ) (more : Bool) → TakesPieces now next count size waiting new more
-      → ReadsRequests old done waited before next count begun new
+  pub plain_read : (next : Option (List ℕ)) (size : ℕ) (new : List ℕ) (more : Bool)
+      → TakesPieces now.done size (buffered now.left now.waiting) (buffered next new) more → ReadsRequests old (record now { waiting = new; left = next })
   plain_read next size new more pieces = record {
     front = on.front;
     takes = on.takes;
     counted = on.counted;
     more = on.more ++ pieces.pieces;
-    taken = consumes-more before now next on.more pieces.pieces on.taken pieces.taken;
-    whole = sym (append_assoc waited on.more pieces.pieces)
+    taken = consumes-more old.left now.left next on.more pieces.pieces on.taken pieces.taken;
+    whole = sym (append_assoc old.waiting on.more pieces.pieces)
         ∙ ap (λ (bytes : List ℕ). bytes ++ pieces.pieces) on.whole
-        ∙ append_assoc on.front waiting pieces.pieces
+        ∙ append_assoc on.front now.waiting pieces.pieces
         ∙ ap (λ (bytes : List ℕ). on.front ++ bytes) (sym pieces.added);
   }
 
   -- more was taken
-  pub plain_taken : (taken : ℕ) (new : BegunTrace A) (left : List ℕ) → TakesFront begun waiting left new → length left + taken ≡ length waiting
-      → ReadsRequests old done waited before now (count + taken) new left
+  pub plain_taken : (taken : ℕ) (new : BegunTrace A) (left : List ℕ) → TakesFront now.begun now.waiting left new → length left + taken ≡ length now.waiting
+      → ReadsRequests old (record now { begun = new; done = now.done + taken; waiting = left })
   plain_taken taken new left takes counted = record {
     front = on.front ++ takes.front;
-    takes = takes_both old begun new on.front takes.front on.takes takes.takes;
+    takes = takes_both old.begun now.begun new on.front takes.front on.takes takes.takes;
     counted = omega (arith, on.counted, counted, ap length takes.split, length-append takes.front left, length-append on.front takes.front);
     more = on.more;
     taken = on.taken;
@@ -69,16 +68,17 @@ module _ {A : Type 0} (old : BegunTrace A) (done : ℕ) (waited : List ℕ) (bef
   }
 
   -- no more was read
-  pub plain_stop : (next : Option (List ℕ)) (fault : CliFault) → StopsPiece now next count waiting fault → StopsPlain done waited before next fault
+  pub plain_stop : (next : Option (List ℕ)) (fault : CliFault) → StopsPiece now.left next now.done now.waiting fault
+      → StopsPlain old.done old.waiting old.left next fault
   plain_stop next fault stops bytes counted first taken =
-      stops_reading first now next (bytes ++ on.front) waiting count fault
+      stops_reading first now.left next (bytes ++ on.front) now.waiting now.done fault
       (omega (arith, counted, on.counted, length-append bytes on.front))
-      (subst (λ (all : List ℕ). Consumes first now all)
-      (append_assoc bytes waited on.more ∙ ap (λ (all : List ℕ). bytes ++ all) on.whole ∙ sym (append_assoc bytes on.front waiting))
-      (consumes-more first before now (bytes ++ waited) on.more taken on.taken)) stops
+      (subst (λ (all : List ℕ). Consumes first now.left all)
+      (append_assoc bytes old.waiting on.more ∙ ap (λ (all : List ℕ). bytes ++ all) on.whole ∙ sym (append_assoc bytes on.front now.waiting))
+      (consumes-more first old.left now.left (bytes ++ old.waiting) on.more taken on.taken)) stops
 
   -- the bytes that were taken
-  pub plain_begun : ((bytes : List ℕ) × IsBegun bytes old) → (bytes : List ℕ) × IsBegun bytes begun
+  pub plain_begun : ((bytes : List ℕ) × IsBegun bytes old.begun) → (bytes : List ℕ) × IsBegun bytes now.begun
   plain_begun some = (some.0 ++ on.front, on.takes.begun some.0 some.1)
 
 -- what stands behind the bytes that were taken
@@ -117,34 +117,35 @@ module _ {A : Type 0} (head : List ℕ) (end : ℕ) (old : BegunTrace A) (within
   head_is : (waited : List ℕ) → waited ≡ drop end head → take end head ++ waited ≡ head
   head_is waited rest = ap (λ (bytes : List ℕ). take end head ++ bytes) rest ∙ take-append-drop end head
 
-  pub found_behind : (before now : Option (List ℕ)) (called calls : ℕ) (new : BegunTrace A) (waited waiting : List ℕ) (ended : Bool) (found : Behind A)
-      → waited ≡ drop end head → HasReadRequests old end waited before now called calls new waiting ended → IsCalledAtMost (most_reads - (end + length waited)) called calls
-      → found.end ≡ end → found.count ≡ length old.draft.lines → contents found.trace ≡ so_far new.draft.names new.draft.lines → found.waiting.items ≡ waiting
-      → found.is_ended ≡ ended → IsReadBehind head before now called calls found
-  found_behind before now called calls new waited waiting ended found rest has most end_same counted trace_is waiting_is ended_is =
+  pub found_behind : (before : Option (List ℕ)) (waited : List ℕ) (new : Progress A) (called calls : ℕ) (ended : Bool) (found : Behind A)
+      → waited ≡ drop end head → HasReadRequests (progress old end waited before) new called calls ended
+      → IsCalledAtMost (most_reads - (end + length waited)) called calls → found.end ≡ end → found.count ≡ length old.draft.lines
+      → contents found.trace ≡ so_far new.begun.draft.names new.begun.draft.lines → found.waiting.items ≡ new.waiting → found.is_ended ≡ ended
+      → IsReadBehind head before new.left called calls found
+  found_behind before waited new called calls ended found rest has most end_same counted trace_is waiting_is ended_is =
       let reads = has.reads in
       let front : List ℕ = reads.front in
       let known : Contents = contents found.trace in
-      let behind = lines_behind old new front found.count known reads.takes counted trace_is in
-      let all : restored head found ≡ (take end head ++ front) ++ waiting =
+      let behind = lines_behind old new.begun front found.count known reads.takes counted trace_is in
+      let all : restored head found ≡ (take end head ++ front) ++ new.waiting =
       ap (λ (n : ℕ). rejoined (take n head) found.count known ++ found.waiting.items) end_same
       ∙ ap (λ (bytes : List ℕ). (take end head ++ bytes) ++ found.waiting.items) behind
       ∙ ap (λ (bytes : List ℕ). (take end head ++ front) ++ bytes) waiting_is in
-      let long : length (restored head found) ≡ has.count + length waiting =
-      ap length all ∙ omega (arith, length-append (take end head ++ front) waiting, length-append (take end head) front, end_is, reads.counted) in
+      let long : length (restored head found) ≡ new.done + length new.waiting =
+      ap length all ∙ omega (arith, length-append (take end head ++ front) new.waiting, length-append (take end head) front, end_is, reads.counted) in
       let waited_long : end + length waited ≡ length head = omega (arith, ap length (head_is waited rest), length-append (take end head) waited, end_is) in
       record {
         within = omega (arith, within, end_same);
         plain =
             subst (λ (n : ℕ). IsPlainText (take n head) found.count known) (sym end_same)
-            (plain_found (take end head) old new front found.count known is reads.takes counted trace_is);
+            (plain_found (take end head) old new.begun front found.count known is reads.takes counted trace_is);
         more = reads.more;
         taken = reads.taken;
         whole =
             ap (λ (bytes : List ℕ). bytes ++ reads.more) (sym (head_is waited rest))
             ∙ append_assoc (take end head) waited reads.more
             ∙ ap (λ (bytes : List ℕ). take end head ++ bytes) reads.whole
-            ∙ sym (append_assoc (take end head) front waiting)
+            ∙ sym (append_assoc (take end head) front new.waiting)
             ∙ sym all;
         short = omega (arith, long, has.short);
         end = λ e. has.end (sym ended_is ∙ e);

@@ -13,7 +13,7 @@ use Rattle.trace_text.specs.Pieces.{IsBegun}
 use Rattle.trace_text.specs.Traces.{contents}
 use Rattle.command_streams.specs.declared.fault.CliFault.{CliFault}
 use Rattle.command_streams.specs.Faults.{fault_of_text}
-use Rattle.command_streams.specs.Streams.{most_bytes, IsRead, IsMeant, IsMeantBehind, IsFaultOf, TakesPieces, StopsPiece, StopsTrace, StopsBehind}
+use Rattle.command_streams.specs.Streams.{most_bytes, IsRead, IsMeant, IsMeantBehind, IsFaultOf, buffered, TakesPieces, StopsPiece, StopsTrace, StopsBehind}
 use Rattle.command_streams.proofs.Bytes.{consumes-none, consumes-more, stops_reading, stops_trace, fault_told, fault_given}
 
 -- Behind the first bytes more was read. So many bytes of all were taken, and the others wait.
@@ -37,8 +37,8 @@ module _ {A : Type 0} (first : List ℕ) (before : Option (List ℕ)) where
   }
 
   -- more was read
-  pub on_read : (now next : Option (List ℕ)) (count size : ℕ) (begun : BegunTrace A) (waiting new : List ℕ) (more : Bool) → TakesPieces now next count size waiting new more
-      → IsReadOn first before now count begun waiting → IsReadOn first before next count begun new
+  pub on_read : (now next : Option (List ℕ)) (count size : ℕ) (begun : BegunTrace A) (waiting new : List ℕ) (more : Bool)
+      → TakesPieces count size (buffered now waiting) (buffered next new) more → IsReadOn first before now count begun waiting → IsReadOn first before next count begun new
   on_read now next count size begun waiting new more pieces on = record {
     bytes = on.bytes;
     more = on.more ++ pieces.pieces;
@@ -104,11 +104,13 @@ module _ {A : Type 0} (first : List ℕ) (before : Option (List ℕ)) where
 -- ---- the head
 
 -- what was read of a text from its first byte on
-pub head_read : (before behind : Option (List ℕ)) (done size : ℕ) (old new : List ℕ) (more : Bool) → TakesPieces before behind done size old new more → old ≡ [] → Consumes before behind new
+pub head_read : (before behind : Option (List ℕ)) (done size : ℕ) (old new : List ℕ) (more : Bool) →
+    TakesPieces done size (buffered before old) (buffered behind new) more → old ≡ [] → Consumes before behind new
 head_read before behind done size old new more pieces none =
     subst (λ (bytes : List ℕ). Consumes before behind bytes) (sym (pieces.added ∙ ap (λ (bytes : List ℕ). bytes ++ pieces.pieces) none)) pieces.taken
 
-pub head_whole : (before behind : Option (List ℕ)) (size : ℕ) (old new : List ℕ) (more : Bool) → TakesPieces before behind 0 size old new more → old ≡ [] → more ≡ false → IsRead before behind new
+pub head_whole : (before behind : Option (List ℕ)) (size : ℕ) (old new : List ℕ) (more : Bool) →
+    TakesPieces 0 size (buffered before old) (buffered behind new) more → old ≡ [] → more ≡ false → IsRead before behind new
 head_whole before behind size old new more pieces none is = record {
   taken = head_read before behind 0 size old new more pieces none;
   end = pieces.end is;
@@ -116,7 +118,8 @@ head_whole before behind size old new more pieces none is = record {
 }
 
 -- a text that goes on behind its head, read as a whole
-pub rest_whole : (before between behind : Option (List ℕ)) (old new : List ℕ) (more : Bool) → Consumes before between old → TakesPieces between behind 0 (most_bytes + 1) old new more
+pub rest_whole : (before between behind : Option (List ℕ)) (old new : List ℕ) (more : Bool) → Consumes before between old →
+    TakesPieces 0 (most_bytes + 1) (buffered between old) (buffered behind new) more
     → IsRead before behind new
 rest_whole before between behind old new true taken pieces = absurd (omega (arith, pieces.short, pieces.reached refl))
 rest_whole before between behind old new false taken pieces = record {

@@ -1,7 +1,6 @@
 -- Texts that are kept as they stand, or as a head and a trace.
 use Rattle.std.specs.Prelude.{ℕ, ◌≡◌, ◌≤◌, ◌+◌, ◌-◌, Bool, true, false, Option, List, ◌++◌, take, length}
 use Rattle.std.specs.Io.KnownBytes.{Consumes, IsAtEnd}
-use Rattle.trace_text.specs.declared.pieces.BegunTrace.{BegunTrace}
 use Rattle.text_words.specs.Values.{Contents}
 use Rattle.trace_text.specs.Grammar.{TextMeans}
 use Rattle.trace_text.specs.Traces.{contents}
@@ -10,7 +9,7 @@ use Rattle.command_streams.specs.declared.kept.KeptText.{KeptText}
 use Rattle.command_streams.specs.declared.kept.KeptText.TheVariants.{Whole, Plain}
 use Rattle.command_streams.specs.Watched.{IsCalledAtMost}
 use Rattle.command_streams.specs.Streams.{most_bytes, most_reads}
-use Rattle.command_streams.specs.PlainTexts.{rejoined, IsPlainText, ReadsRequests}
+use Rattle.command_streams.specs.PlainTexts.{rejoined, IsPlainText, Progress, ReadsRequests}
 
 -- The text that is kept.
 abbrev pub text_of : {A : Type 0} → KeptText A → List ℕ
@@ -30,13 +29,11 @@ pub record KeepsTrace {A : Type 0} (source : KeptText A) (trace : Contents) : Ty
 -- ---- what is read behind the head
 
 -- Plain lines were read, to the end or not. Where it was not, each call of the reader gave a byte.
-pub record HasReadRequests {A : Type 0} (old : BegunTrace A) (done : ℕ) (waited : List ℕ) (before now : Option (List ℕ)) (called calls : ℕ) (new : BegunTrace A)
-    (waiting : List ℕ) (ended : Bool) : Type 0 where
-  pub count : ℕ
-  pub reads : ReadsRequests old done waited before now count new waiting
-  pub short : count + length waiting ≤ most_bytes
-  pub end : ended ≡ true → IsAtEnd now
-  pub called_few : ended ≡ false → IsCalledAtMost ((count + length waiting) - (done + length waited)) called calls
+pub record HasReadRequests {A : Type 0} (old new : Progress A) (called calls : ℕ) (ended : Bool) : Type 0 where
+  pub reads : ReadsRequests old new
+  pub short : new.done + length new.waiting ≤ most_bytes
+  pub end : ended ≡ true → IsAtEnd new.left
+  pub called_few : ended ≡ false → IsCalledAtMost ((new.done + length new.waiting) - (old.done + length old.waiting)) called calls
 
 -- All that was read, by what was found behind the head.
 abbrev pub restored : {A : Type 0} → (head : List ℕ) → Behind A → List ℕ

@@ -20,16 +20,24 @@ pub record IsPlainText (head : List ℕ) (count : ℕ) (contents : Contents) : T
 
 -- ---- what is read behind the head
 
--- Bytes waited behind so many that were taken. More was read, and so many are taken then, the further ones as plain lines of requests; the
--- others wait.
-pub record ReadsRequests {A : Type 0} (old : BegunTrace A) (done : ℕ) (waited : List ℕ) (before now : Option (List ℕ)) (count : ℕ) (new : BegunTrace A)
-    (waiting : List ℕ) : Type 0 where
+-- How far a trace is read. It is begun with the first `done` bytes, those behind them wait, and the rest is left to read, where that is known.
+pub record Progress (A : Type 0) : Type 0 where
+  pub begun : BegunTrace A
+  pub done : ℕ
+  pub waiting : List ℕ
+  pub left : Option (List ℕ)
+
+abbrev pub progress : {A : Type 0} → BegunTrace A → (done : ℕ) → (waiting : List ℕ) → (left : Option (List ℕ)) → Progress A
+progress begun done waiting left = record { begun = begun; done = done; waiting = waiting; left = left }
+
+-- More was read. What was taken behind the first bytes are plain lines of requests, and the rest of what was read waits.
+pub record ReadsRequests {A : Type 0} (old new : Progress A) : Type 0 where
   pub front : List ℕ
-  pub takes : TakesPlain old front new
-  pub counted : count ≡ done + length front
+  pub takes : TakesPlain old.begun front new.begun
+  pub counted : new.done ≡ old.done + length front
   pub more : List ℕ
-  pub taken : Consumes before now more
-  pub whole : waited ++ more ≡ front ++ waiting
+  pub taken : Consumes old.left new.left more
+  pub whole : old.waiting ++ more ≡ front ++ new.waiting
 
 -- ---- reading on
 

@@ -119,24 +119,32 @@ HasCause before behind wrote writes limit TooLong = IsReadTooLong before behind
 HasCause before behind wrote writes limit Memory = Unit {0}
 HasCause before behind wrote writes limit fault = IsFaulty before behind fault
 
--- One more piece was read and stands behind the text, where there was one; else the end was reached. So many bytes were read before
--- the text.
-pub record TakesPiece (before behind : Option (List ℕ)) (done : ℕ) (old new : List ℕ) (more : Bool) : Type 0 where
-  pub piece : List ℕ
-  pub taken : Consumes before behind piece
-  pub added : new ≡ old ++ piece
-  pub short : done + length new ≤ most_bytes
-  pub some : more ≡ true → 0 < length piece
-  pub end : more ≡ false → IsAtEnd behind
+-- What is left to read, where that is known, and the bytes that wait behind those that were taken.
+pub record Buffered : Type 0 where
+  pub left : Option (List ℕ)
+  pub bytes : List ℕ
 
--- Pieces were read and stand behind the text, which has so many bytes then; else the end was reached.
-pub record TakesPieces (before behind : Option (List ℕ)) (done size : ℕ) (old new : List ℕ) (more : Bool) : Type 0 where
+abbrev pub buffered : (left : Option (List ℕ)) → (bytes : List ℕ) → Buffered
+buffered left bytes = record { left = left; bytes = bytes }
+
+-- One more piece was read and waits behind the others, where there was one; else the end was reached. So many bytes were taken before all
+-- that wait.
+pub record TakesPiece (done : ℕ) (old new : Buffered) (more : Bool) : Type 0 where
+  pub piece : List ℕ
+  pub taken : Consumes old.left new.left piece
+  pub added : new.bytes ≡ old.bytes ++ piece
+  pub short : done + length new.bytes ≤ most_bytes
+  pub some : more ≡ true → 0 < length piece
+  pub end : more ≡ false → IsAtEnd new.left
+
+-- Pieces were read and wait behind the others, and at least `size` bytes wait then; else the end was reached.
+pub record TakesPieces (done size : ℕ) (old new : Buffered) (more : Bool) : Type 0 where
   pub pieces : List ℕ
-  pub taken : Consumes before behind pieces
-  pub added : new ≡ old ++ pieces
-  pub short : done + length new ≤ most_bytes
-  pub reached : more ≡ true → size ≤ length new
-  pub end : more ≡ false → IsAtEnd behind
+  pub taken : Consumes old.left new.left pieces
+  pub added : new.bytes ≡ old.bytes ++ pieces
+  pub short : done + length new.bytes ≤ most_bytes
+  pub reached : more ≡ true → size ≤ length new.bytes
+  pub end : more ≡ false → IsAtEnd new.left
 
 -- Why a piece is not added: with it the text would be too long, or a device or memory failed.
 abbrev pub StopsPiece : Option (List ℕ) → Option (List ℕ) → (done : ℕ) → List ℕ → CliFault → Type 0

@@ -10,9 +10,17 @@ pub record IsTold (wrote writes : Option (List ℕ)) (failed : Bool) (waiting te
   pub whole : part ++ rest ≡ text
   pub waits : failed ≡ false → rest ≡ waiting
 
+-- How far a text is told: what the writer has, where that is known, whether a write has failed, and what waits.
+pub record Telling : Type 0 where
+  pub device : Option (List ℕ)
+  pub failed : Bool
+  pub waiting : List ℕ
+
+abbrev pub telling : (device : Option (List ℕ)) → (failed : Bool) → (waiting : List ℕ) → Telling
+telling device failed waiting = record { device = device; failed = failed; waiting = waiting }
+
 -- What was told before is told still, and these bytes behind it: they were written or wait, unless a write has failed.
-abbrev pub TellsMore : (before : Option (List ℕ)) (failed : Bool) (waiting : List ℕ) (behind : Option (List ℕ)) (fails : Bool) →
-    (waits bytes : List ℕ) → Type 0
-TellsMore before failed waiting behind fails waits bytes =
+abbrev pub TellsMore : (before behind : Telling) → (bytes : List ℕ) → Type 0
+TellsMore before behind bytes =
     (wrote : Option (List ℕ)) (text : List ℕ) →
-    IsTold wrote before failed waiting text → IsTold wrote behind fails waits (text ++ bytes)
+    IsTold wrote before.device before.failed before.waiting text → IsTold wrote behind.device behind.failed behind.waiting (text ++ bytes)

@@ -8,7 +8,7 @@ ghost use Rattle.trace_text.specs.Pieces.{IsBegun, TakesFront};
 ghost use Rattle.trace_text.specs.Traces.{contents};
 ghost use Rattle.command_streams.specs.Watched.{held, has_failed, calls_of, IsCalledAtMost};
 ghost use Rattle.command_streams.specs.Streams.{most_bytes, most_reads, IsRead, StopsReading};
-ghost use Rattle.command_streams.specs.PlainTexts.{rejoined, IsReadFrom, StopsReadingFrom, StopsPlain};
+ghost use Rattle.command_streams.specs.PlainTexts.{rejoined, progress, IsReadFrom, StopsReadingFrom, StopsPlain};
 ghost use Rattle.command_streams.specs.KeptTexts.{IsKept, text_of, restored, HasReadRequests, IsReadBehind};
 
 use crate::fault::CliFault;
@@ -133,8 +133,9 @@ fn read_plain<A: Allocator + Copy, R: Read>(
     requires fresh { has_failed input.old ≡ false }
     requires room { 0 < length piece.old }
     requires short { done + length waiting.old.items ≤ most_bytes }
-    ensures read { IfOk result (HasReadRequests begun.old done waiting.old.items (R.remaining (held input.old)) (R.remaining (held input.new))
-        (calls_of input.old) (calls_of input.new) begun.new waiting.new.items) }
+    ensures read { IfOk result (λ ended. (count : ℕ)
+        × HasReadRequests (progress begun.old done waiting.old.items (R.remaining (held input.old)))
+        (progress begun.new count waiting.new.items (R.remaining (held input.new))) (calls_of input.old) (calls_of input.new) ended) }
     ensures fault { IfErr result (StopsPlain done waiting.old.items (R.remaining (held input.old)) (R.remaining (held input.new))) }
     ensures fresh { OnOk result (has_failed input.new ≡ false) }
     ensures failed { IsErrOf result CliFault.Read ↔ IsTrue (has_failed input.new) }

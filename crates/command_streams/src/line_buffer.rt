@@ -6,7 +6,7 @@ ghost use Rattle.verdict_lines.specs.VerdictText.{HasWords, line_of_reply};
 ghost use Rattle.command_streams.specs.ElisionText.{cell_line, requests_line, HasShortName};
 ghost use Rattle.command_streams.specs.Watched.{held, has_failed};
 ghost use Rattle.command_streams.specs.LineBuffers.{most_filled};
-ghost use Rattle.command_streams.specs.Tellings.{TellsMore};
+ghost use Rattle.command_streams.specs.Tellings.{telling, TellsMore};
 
 use crate::streams::write_bytes;
 use crate::watched::Watched;
@@ -160,8 +160,8 @@ impl<A: Allocator> LineBuffer<A> {
     #[cold]
     #[inline(never)]
     pub fn write_out<W: Write>(&mut self, output: &mut Watched<W>)
-        ensures told { TellsMore (W.contents (held output.old)) (has_failed output.old) self.old.text
-            (W.contents (held output.new)) (has_failed output.new) self.new.text [] }
+        ensures told { TellsMore (telling (W.contents (held output.old)) (has_failed output.old) self.old.text)
+            (telling (W.contents (held output.new)) (has_failed output.new) self.new.text) [] }
         ensures none { self.new.text ≡ [] }
         ensures room { self.new.filled ≤ most_filled }
     {
@@ -175,8 +175,8 @@ impl<A: Allocator> LineBuffer<A> {
     /// Sees to it that there is room for one more line, however long: the lines that wait are written first where there is not.
     #[inline(always)]
     fn make_room<W: Write>(&mut self, output: &mut Watched<W>)
-        ensures told { TellsMore (W.contents (held output.old)) (has_failed output.old) self.old.text
-            (W.contents (held output.new)) (has_failed output.new) self.new.text [] }
+        ensures told { TellsMore (telling (W.contents (held output.old)) (has_failed output.old) self.old.text)
+            (telling (W.contents (held output.new)) (has_failed output.new) self.new.text) [] }
         ensures room { self.new.filled ≤ most_filled }
     {
         if !self.has_room() {
@@ -188,8 +188,8 @@ impl<A: Allocator> LineBuffer<A> {
     #[inline(always)]
     pub fn tell_verdict<W: Write>(&mut self, output: &mut Watched<W>, reply: &Reply)
         requires { HasWords reply.now }
-        ensures { TellsMore (W.contents (held output.old)) (has_failed output.old) self.old.text
-            (W.contents (held output.new)) (has_failed output.new) self.new.text (line_of_reply reply.now) }
+        ensures { TellsMore (telling (W.contents (held output.old)) (has_failed output.old) self.old.text)
+            (telling (W.contents (held output.new)) (has_failed output.new) self.new.text) (line_of_reply reply.now) }
     {
         self.make_room(output);
         self.add_verdict(reply);
@@ -205,8 +205,8 @@ impl<A: Allocator> LineBuffer<A> {
         value: u64,
     )
         requires { HasShortName mem.now }
-        ensures { TellsMore (W.contents (held output.old)) (has_failed output.old) self.old.text
-            (W.contents (held output.new)) (has_failed output.new) self.new.text (cell_line mem.now index value) }
+        ensures { TellsMore (telling (W.contents (held output.old)) (has_failed output.old) self.old.text)
+            (telling (W.contents (held output.new)) (has_failed output.new) self.new.text) (cell_line mem.now index value) }
     {
         self.make_room(output);
         self.add_cell(mem, index, value);
@@ -214,8 +214,8 @@ impl<A: Allocator> LineBuffer<A> {
 
     /// Tells the line of the number of requests.
     pub fn tell_requests<W: Write>(&mut self, output: &mut Watched<W>, requests: u32)
-        ensures { TellsMore (W.contents (held output.old)) (has_failed output.old) self.old.text
-            (W.contents (held output.new)) (has_failed output.new) self.new.text (requests_line requests) }
+        ensures { TellsMore (telling (W.contents (held output.old)) (has_failed output.old) self.old.text)
+            (telling (W.contents (held output.new)) (has_failed output.new) self.new.text) (requests_line requests) }
     {
         self.make_room(output);
         self.add_requests(requests);

@@ -10,7 +10,7 @@ ghost use Rattle.trace_text.specs.Pieces.{IsBegun};
 ghost use Rattle.trace_text.specs.Traces.{contents as trace_contents};
 ghost use Rattle.command_streams.specs.Watched.{held, has_failed, is_delivered, calls_of, one_more, IsCalledAtMost};
 ghost use Rattle.command_streams.specs.Streams.{most_bytes, most_reads, IsRead, IsMeant, IsMeantBehind, IsFaultOf};
-ghost use Rattle.command_streams.specs.Streams.{TakesPiece, TakesPieces, StopsPiece, StopsReading, StopsTrace, StopsBehind, StopsWriting};
+ghost use Rattle.command_streams.specs.Streams.{buffered, TakesPiece, TakesPieces, StopsPiece, StopsReading, StopsTrace, StopsBehind, StopsWriting};
 
 use crate::fault::CliFault;
 use crate::watched::Watched;
@@ -35,7 +35,8 @@ fn read_piece<A: Allocator, R: Read>(
     requires room { 0 < length piece.old }
     requires short { done ≤ most_bytes }
     ensures taken { IfOk result (λ more.
-        TakesPiece (R.remaining (held input.old)) (R.remaining (held input.new)) done text.old.items text.new.items more) }
+        TakesPiece done (buffered (R.remaining (held input.old)) text.old.items)
+        (buffered (R.remaining (held input.new)) text.new.items) more) }
     ensures fault { IfErr result (StopsPiece (R.remaining (held input.old)) (R.remaining (held input.new)) done text.old.items) }
     ensures fresh { OnOk result (has_failed input.new ≡ false) }
     ensures failed { IsErrOf result CliFault.Read ↔ IsTrue (has_failed input.new) }
@@ -67,7 +68,8 @@ pub(crate) fn read_until<A: Allocator, R: Read>(
     requires room { 0 < length piece.old }
     requires short { done + length text.old.items ≤ most_bytes }
     ensures taken { IfOk result (λ more.
-        TakesPieces (R.remaining (held input.old)) (R.remaining (held input.new)) done size text.old.items text.new.items more) }
+        TakesPieces done size (buffered (R.remaining (held input.old)) text.old.items)
+        (buffered (R.remaining (held input.new)) text.new.items) more) }
     ensures fault { IfErr result (StopsPiece (R.remaining (held input.old)) (R.remaining (held input.new)) done text.old.items) }
     ensures fresh { OnOk result (has_failed input.new ≡ false) }
     ensures failed { IsErrOf result CliFault.Read ↔ IsTrue (has_failed input.new) }

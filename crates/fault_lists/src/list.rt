@@ -1,10 +1,10 @@
 //! The faults of a text that can be told apart.
 
-ghost use Rattle.std.specs.Prelude.{◌≡◌, ◌-◌, ◌++◌, [], false, ℕ, List, IfOk, OnOk, MatchOption, map};
+ghost use Rattle.std.specs.Prelude.{◌≡◌, ◌++◌, [], false, ℕ, List, IfOk, OnOk, MatchOption, map};
 ghost use Rattle.text_words.specs.Text.{lines};
 ghost use Rattle.source_quotes.specs.Lines.{line_in};
 ghost use Rattle.fault_lists.specs.Doubts.{structure_of, leaves_doubt, lost_by, follows};
-ghost use Rattle.fault_lists.specs.FaultLists.{most_left_out, most_told, HasMeaning, HasFault, blanked, Lists, Adds, ListsFaults};
+ghost use Rattle.fault_lists.specs.FaultLists.{HasMeaning, HasFault, blanked, all_of, behind_told, Lists, Adds, ListsFaults};
 ghost use denote.Ref.{Bor};
 
 use crate::doubt::{Structure, follows, is_doubtful, lost_with, structure_of};
@@ -143,8 +143,12 @@ fn list_from<'a>(
     others: &mut Vec<Fault>,
 ) -> Result<bool, AllocError>
     requires { structure ≡ structure_of source.now }
-    ensures { IfOk result (Adds meant source.now looks left rest.old.text.items (map (λ (name : Bor (List ℕ)). name.now) rest.old.lost.items)
-        others.old.items others.new.items) }
+    ensures { IfOk result (Adds meant source.now (record {
+      looks = looks;
+      left = left;
+      text = rest.old.text.items;
+      lost = map (λ (name : Bor (List ℕ)). name.now) rest.old.lost.items;
+    }) others.old.items others.new.items) }
 {
     let found = rest.fault(alloc, meant)?;
     match found {
@@ -221,8 +225,8 @@ fn list_behind(
     first: Fault,
 ) -> Result<Others, AllocError>
     requires { structure ≡ structure_of source.now }
-    ensures { IfOk result (λ others. Lists meant source.now (most_left_out - 1) (most_told - 1) (blanked first.line text.now)
-        (lost_by meant (line_in source.now first.line)) others.faults.items others.is_more) }
+    ensures { IfOk result (λ others.
+        Lists meant source.now (behind_told meant source.now first (all_of text.now)) others.faults.items others.is_more) }
 {
     let mut rest = Rest::new(alloc, text)?;
     rest.leave_out(alloc, meant, source, first.line)?;

@@ -21,7 +21,7 @@ use Rattle.reducer_views.specs.Held.{view_of}
 use Rattle.model_reducers.specs.Products.{view_number}
 use Rattle.model_histories.specs.declared.answer.Answer.{Answer}
 use Rattle.model_histories.specs.declared.answer.Answer.TheVariants.{Split, Joined, EndedJoined, Granted, Value, Unset}
-use Rattle.race_gate.specs.Books.{Books, Keeps, KeepsRunning, KeepsOn, TakesEvent, MayRead, IsRefusal, AnswersAccess}
+use Rattle.race_gate.specs.Books.{Books, Keeps, KeepsRunning, KeepsOn, TakesEvent, MayRead, IsRefusal, answered_act, AnswersAccess}
 use Rattle.race_gate.proofs.Keeping.{keeps-event, keeps-other, keeps-update, keeps-put, keeps-get}
 use Rattle.race_gate.proofs.Reading.{granted-right, refusal-cases}
 use Rattle.race_gate.proofs.Getting.{get-value, get-some}
@@ -124,7 +124,7 @@ module _ (branches : Names) (reads : List (Option Witness)) (views : Holding) (o
 
   pub answers-update : (after : Holding) (number strand reducer value : ℕ) → value < 2 ^ 64 → after.monoids ≡ views.monoids →
       ((steps : Steps) → AreLegal steps → Holds views steps → Running (control_steps steps) strand → Holds after (update strand reducer value ∷ steps)) →
-      AnswersAccess old (record { branches = branches; reads = reads; views = after }) number strand (Update reducer value) Granted
+      AnswersAccess old (record { branches = branches; reads = reads; views = after }) (answered_act number strand (Update reducer value) Granted)
   answers-update after number strand reducer value small monoids holds = record {
     monoids = monoids ∙ ap (λ (held : Holding). held.monoids) same_views;
     answered = λ steps earlier kept runs. record {
@@ -141,7 +141,7 @@ module _ (branches : Names) (reads : List (Option Witness)) (views : Holding) (o
       (may : (steps : Steps) (earlier : List ReducerRead) → Keeps old steps earlier → Running (control_steps steps) strand → MayRead (control_steps steps) earlier strand reducer new) where
     pub answers-put : (after : Holding) (value : ℕ) → new ≡ kind.Put → value < 2 ^ 64 → after.monoids ≡ views.monoids →
         ((steps : Steps) → AreLegal steps → Holds views steps → Running (control_steps steps) strand → Holds after (put strand reducer value ∷ steps)) →
-        AnswersAccess old (record { branches = branches; reads = firsts; views = after }) number strand (Put reducer value) Granted
+        AnswersAccess old (record { branches = branches; reads = firsts; views = after }) (answered_act number strand (Put reducer value) Granted)
     answers-put after value is small monoids holds = record {
       monoids = monoids ∙ ap (λ (held : Holding). held.monoids) same_views;
       answered = λ steps earlier kept runs.
@@ -157,7 +157,7 @@ module _ (branches : Names) (reads : List (Option Witness)) (views : Holding) (o
 
     pub answers-get : (value : ℕ) → new ≡ kind.Get →
         ((steps : Steps) → AreLegal steps → Holds views steps → Running (control_steps steps) strand → Some value ≡ view_number (view_of views.monoids reducer steps strand)) →
-        AnswersAccess old (record { branches = branches; reads = firsts; views = views }) number strand (Get reducer) (Value value)
+        AnswersAccess old (record { branches = branches; reads = firsts; views = views }) (answered_act number strand (Get reducer) (Value value))
     answers-get value is gives = record {
       monoids = ap (λ (held : Holding). held.monoids) same_views;
       answered = λ steps earlier kept runs.
@@ -190,12 +190,12 @@ module _ (branches : Names) (reads : List (Option Witness)) (views : Holding) (o
 -- an access that is not granted
 pub answers-refused_put : (old : Books) (number strand reducer value : ℕ) (answer : Answer) →
     ((steps : Steps) (earlier : List ReducerRead) → Keeps old steps earlier → Running (control_steps steps) strand →
-    IsRefusal (control_steps steps) earlier strand reducer kind.Put answer) → KeepsRunning old strand → AnswersAccess old old number strand (Put reducer value) answer
+    IsRefusal (control_steps steps) earlier strand reducer kind.Put answer) → KeepsRunning old strand → AnswersAccess old old (answered_act number strand (Put reducer value) answer)
 answers-refused_put old number strand reducer value answer refusal (some, reads, holds, runs) =
     let first = refusal some reads holds runs in
     let is_put : answer ≡ Unset → ⊥ = λ e. let clash = (first.right.unset.0 e).0 in absurd (cc) in
     refusal-cases (λ one. (one ≡ Unset → ⊥) → ((steps : Steps) (earlier : List ReducerRead) → Keeps old steps earlier → Running (control_steps steps) strand →
-    IsRefusal (control_steps steps) earlier strand reducer kind.Put one) → AnswersAccess old old number strand (Put reducer value) one)
+    IsRefusal (control_steps steps) earlier strand reducer kind.Put one) → AnswersAccess old old (answered_act number strand (Put reducer value) one))
     (λ rule witness none refused. record {
       monoids = refl;
       answered = λ steps earlier kept runs. record {
@@ -207,10 +207,10 @@ answers-refused_put old number strand reducer value answer refusal (some, reads,
 
 pub answers-refused_get : (old : Books) (number strand reducer : ℕ) (answer : Answer) →
     ((steps : Steps) (earlier : List ReducerRead) → Keeps old steps earlier → Running (control_steps steps) strand →
-    IsRefusal (control_steps steps) earlier strand reducer kind.Get answer) → KeepsRunning old strand → AnswersAccess old old number strand (Get reducer) answer
+    IsRefusal (control_steps steps) earlier strand reducer kind.Get answer) → KeepsRunning old strand → AnswersAccess old old (answered_act number strand (Get reducer) answer)
 answers-refused_get old number strand reducer answer refusal (some, reads, holds, runs) =
     refusal-cases (λ one. ((steps : Steps) (earlier : List ReducerRead) → Keeps old steps earlier → Running (control_steps steps) strand →
-    IsRefusal (control_steps steps) earlier strand reducer kind.Get one) → AnswersAccess old old number strand (Get reducer) one)
+    IsRefusal (control_steps steps) earlier strand reducer kind.Get one) → AnswersAccess old old (answered_act number strand (Get reducer) one))
     (λ rule witness refused. record {
       monoids = refl;
       answered = λ steps earlier kept runs. record {

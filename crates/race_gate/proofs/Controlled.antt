@@ -5,7 +5,7 @@ use Rattle.model_strands.specs.History.{Event, History}
 use Rattle.model_strands.specs.Legal.{Allowed}
 use Rattle.sp_labels.specs.Roster.{Roster}
 use Rattle.model_histories.specs.declared.answer.Answer.{Answer}
-use Rattle.race_gate.specs.Books.{Books, TakesEvent, KeepsRunning, KeepsStill, KeepsOn, AnswersAccess, OptionHasReducer, OptionKeepsStill, OptionKeepsSome, OptionKeepsRunning, OptionAnswersAccess}
+use Rattle.race_gate.specs.Books.{Books, TakesEvent, KeepsRunning, KeepsStill, KeepsOn, AnsweredAct, AnswersAccess, OptionHasReducer, OptionKeepsStill, OptionKeepsSome, OptionKeepsRunning, OptionAnswersAccess}
 use Rattle.race_gate.specs.Steps.{GoesOn}
 use Rattle.race_gate.proofs.Entering.{last_allowed}
 
@@ -50,10 +50,10 @@ known-still (Some found) one new reducer is still known =
     let same : one ≡ found = cc in let stays = subst (λ b. KeepsStill b new) same still in omega (arith, ap length stays.monoids)
 
 -- an access after room was made for it
-pub answers-still : (option : Option Books) (one between new : Books) (number strand : ℕ) (act : Act) (answer : Answer) → option ≡ Some one →
-    KeepsStill one between → AnswersAccess between new number strand act answer → OptionAnswersAccess option (Some new) number strand act answer
-answers-still None one between new number strand act answer is still answers = absurd (cc)
-answers-still (Some found) one between new number strand act answer is still answers =
+pub answers-still : (option : Option Books) (one between new : Books) (done : AnsweredAct) → option ≡ Some one →
+    KeepsStill one between → AnswersAccess between new done → OptionAnswersAccess option (Some new) done
+answers-still None one between new done is still answers = absurd (cc)
+answers-still (Some found) one between new done is still answers =
     let same : one ≡ found = cc in
     let stays = subst (λ b. KeepsStill b between) same still in
     record {

@@ -1,10 +1,8 @@
 -- A core, the states that fit it, and the gate that has it with a list of entries.
-use Rattle.std.proofs.Common.{◌≡◌, ◌↔◌, ℕ, ◌+◌, Bool, true, IsTrue, List, [], ◌∷◌, ◌++◌, length, reverse, take, drop, Option, Result, Ok, Err, refl, sym, ap, ◌∙◌, subst, arith}
+use Rattle.std.proofs.Common.{◌≡◌, ◌↔◌, ℕ, ◌+◌, Bool, true, IsTrue, List, [], ◌∷◌, ◌++◌, length, reverse, take, drop, Result, Ok, Err, refl, sym, ap, ◌∙◌, subst, arith}
 use Rattle.std.specs.Prelude.{MatchResult}
 use Rattle.std.proofs.lemmas.List.{reverse-append}
 use Rattle.model_accesses.specs.declared.request.Request.{Request}
-use Rattle.sp_labels.specs.Roster.{Roster}
-use Rattle.shadow_history.specs.declared.cell.Cell.{Cell}
 use Rattle.model_histories.specs.declared.answer.Answer.{Answer}
 use Rattle.model_histories.specs.declared.answer.Entry.{Entry}
 use Rattle.model_histories.specs.declared.fault.GateFault.{GateFault}
@@ -12,8 +10,7 @@ use Rattle.model_histories.specs.declared.fault.GateFault.TheVariants.{Memory}
 use Rattle.model_histories.specs.declared.reply.Reply.TheVariants.{Illegal}
 use Rattle.model_histories.specs.Extensions.{IsEnd}
 use Rattle.model_histories.specs.States.{GateState}
-use Rattle.race_gate.specs.Books.{Books}
-use Rattle.race_gate.specs.Kept.{IsKept, IsReady, with_entry}
+use Rattle.race_gate.specs.Kept.{TracksState, IsKept, IsReady, with_entry}
 use Rattle.model_histories.specs.Faults.{IsFaultless}
 use Rattle.model_histories.specs.Replies.{Judges, IsEntered}
 use Rattle.race_gate.specs.Cores.{CoreState, with_history, IsCoreOf, reply_with}
@@ -53,45 +50,42 @@ module _ (core : CoreState) (state : GateState) (fits : IsCoreOf core state) whe
 
   -- the request is handed on with the number of its entry
   pub is-ready : (request : Request) (memory : List ℕ) (number : ℕ) → IsFaultless state request → memory ≡ core.memory → number ≡ core.entries + 1 →
-      IsReady state core.strands core.shadow core.reducers memory request number
+      IsReady state core.tracks memory request number
   is-ready request memory number faultless same numbered =
       record { kept = fits.kept; cells = same ∙ its-memory; faultless = faultless; numbered = omega (arith, fits.counted, numbered) }
 
   -- the core with other cells and tracks
-  abbrev the_core : ℕ → Bool → List ℕ → Roster → List Cell → Option Books → CoreState
-  the_core number finished cells after marks others = record {
+  abbrev the_core : ℕ → Bool → List ℕ → TracksState → CoreState
+  the_core number finished cells after = record {
     shape = core.shape;
     limit = core.limit;
     stopped = core.stopped;
     entries = number;
     finished = finished;
     memory = cells;
-    strands = after;
-    shadow = marks;
-    reducers = others;
+    tracks = after;
   }
 
   -- the answer was counted, and the cells are written back
-  pub fits-answered : (request : Request) (answer : Answer) (number : ℕ) (finished : Bool) (memory : List ℕ) (len : ℕ) (after : Roster) (marks : List Cell)
-      (others : Option Books) → number ≡ core.entries + 1 → IsTrue finished ↔ IsEnd answer → len ≡ length core.memory →
-      IsKept (with_entry state request answer memory) after marks others →
-      IsCoreOf (the_core number finished (take len (memory ++ drop (length memory) core.memory)) after marks others)
+  pub fits-answered : (request : Request) (answer : Answer) (number : ℕ) (finished : Bool) (memory : List ℕ) (len : ℕ) (after : TracksState) → number ≡ core.entries + 1 → IsTrue finished ↔ IsEnd answer → len ≡ length core.memory →
+      IsKept (with_entry state request answer memory) after →
+      IsCoreOf (the_core number finished (take len (memory ++ drop (length memory) core.memory)) after)
       (with_entry state request answer (take len (memory ++ drop (length memory) core.memory)))
-  fits-answered request answer number finished memory len after marks others numbered ends counted kept =
+  fits-answered request answer number finished memory len after numbered ends counted kept =
       let same_length : length memory ≡ length core.memory = omega (arith, kept.right.memory.len, fits.kept.right.memory.len, ap length its-memory) in
       let written : take len (memory ++ drop (length memory) core.memory) ≡ memory = written_back core.memory memory len (sym counted) same_length in
       record {
         shown = ap (λ (s : GateState). with_entry s request answer (take len (memory ++ drop (length memory) core.memory))) fits.shown;
         counted = omega (arith, fits.counted, numbered);
         finished = ends;
-        kept = subst (λ (cells : List ℕ). IsKept (with_entry state request answer cells) after marks others) (sym written) kept;
+        kept = subst (λ (cells : List ℕ). IsKept (with_entry state request answer cells) after) (sym written) kept;
       }
 
   -- nothing changed
-  pub fits-still : (memory : List ℕ) (len : ℕ) (after : Roster) (marks : List Cell) (others : Option Books) → len ≡ length core.memory → memory ≡ core.memory →
-      IsKept state after marks others →
-      IsCoreOf (the_core core.entries core.finished (take len (memory ++ drop (length memory) core.memory)) after marks others) state
-  fits-still memory len after marks others counted same kept =
+  pub fits-still : (memory : List ℕ) (len : ℕ) (after : TracksState) → len ≡ length core.memory → memory ≡ core.memory →
+      IsKept state after →
+      IsCoreOf (the_core core.entries core.finished (take len (memory ++ drop (length memory) core.memory)) after) state
+  fits-still memory len after counted same kept =
       let written : take len (memory ++ drop (length memory) core.memory) ≡ memory = written_back core.memory memory len (sym counted) (ap length same) in
       record {
         shown = ap (λ (cells : List ℕ). let s : GateState = record { shape = core.shape; limit = core.limit; stopped = core.stopped; history = state.history; memory = cells } in s)
@@ -102,19 +96,19 @@ module _ (core : CoreState) (state : GateState) (fits : IsCoreOf core state) whe
       }
 
   -- the same where no cell was handed on
-  pub fits-entered : (request : Request) (answer : Answer) (number : ℕ) (finished : Bool) (after : Roster) (marks : List Cell) (others : Option Books) →
-      number ≡ core.entries + 1 → IsTrue finished ↔ IsEnd answer → IsKept (with_entry state request answer core.memory) after marks others →
-      IsCoreOf (the_core number finished core.memory after marks others) (with_entry state request answer core.memory)
-  fits-entered request answer number finished after marks others numbered ends kept = record {
+  pub fits-entered : (request : Request) (answer : Answer) (number : ℕ) (finished : Bool) (after : TracksState) →
+      number ≡ core.entries + 1 → IsTrue finished ↔ IsEnd answer → IsKept (with_entry state request answer core.memory) after →
+      IsCoreOf (the_core number finished core.memory after) (with_entry state request answer core.memory)
+  fits-entered request answer number finished after numbered ends kept = record {
     shown = ap (λ (s : GateState). with_entry s request answer core.memory) fits.shown;
     counted = omega (arith, fits.counted, numbered);
     finished = ends;
     kept = kept;
   }
 
-  pub fits-kept : (after : Roster) (marks : List Cell) (others : Option Books) → IsKept state after marks others →
-      IsCoreOf (the_core core.entries core.finished core.memory after marks others) state
-  fits-kept after marks others kept = record { shown = fits.shown; counted = fits.counted; finished = fits.finished; kept = kept }
+  pub fits-kept : (after : TracksState) → IsKept state after →
+      IsCoreOf (the_core core.entries core.finished core.memory after) state
+  fits-kept after kept = record { shown = fits.shown; counted = fits.counted; finished = fits.finished; kept = kept }
 
 -- what a judged request leaves
 pub judges-next : (old new : CoreState) (state : GateState) (request : Request) (result : Result Answer GateFault) → IsCoreOf old state → IsFaultless state request →

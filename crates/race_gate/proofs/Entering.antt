@@ -34,11 +34,11 @@ use Rattle.model_races.specs.Memory.{leaves, effect_on_cell}
 use Rattle.model_races.specs.Verdicts.{IfValue, IsRightVerdict}
 use Rattle.model_races.specs.Reducers.{step_with, steps_of, read_at, granted_reads}
 use Rattle.model_races.specs.ReducerVerdicts.{IsRightFor, ReadsBefore, reads_before}
-use Rattle.race_gate.specs.Books.{Books, Keeps, OptionKeepsStill, OptionKeepsOn, OptionKeepsSome, OptionKeepsRunning, OptionHasReducer, OptionAnswersAccess}
+use Rattle.race_gate.specs.Books.{Books, Keeps, OptionKeepsStill, OptionKeepsOn, OptionKeepsSome, OptionKeepsRunning, OptionHasReducer, answered_act, OptionAnswersAccess}
 use Rattle.model_histories.specs.States.{GateState}
-use Rattle.race_gate.specs.Kept.{AreBooksOf, IsKept}
+use Rattle.race_gate.specs.Kept.{TracksState, AreBooksOf, IsKept}
 use Rattle.model_histories.specs.Faults.{IsFaultless}
-use Rattle.race_gate.specs.Steps.{FollowsWith, GoesOn, if_granted, IsJudgedBy, TakesPlace}
+use Rattle.race_gate.specs.Steps.{FollowsWith, GoesOn, if_granted, numbered_access, IsJudgedBy, TakesPlace}
 use Rattle.race_gate.proofs.Effects.{memory-after}
 use Rattle.race_gate.proofs.Keeping.{keeps-other}
 
@@ -157,7 +157,7 @@ no_access-granted entry entries no_access =
 
 access-granted : (entry : Entry) (entries : Entries) (access : CellAccess) → cell_access entry.request.act ≡ Some access →
     granted (entry ∷ entries) ≡
-    granted entries ++ option_to_list (if_granted entry.answer (record { strand = entry.request.strand; kind = access.kind; location = access.location; entry = suc (length entries) }))
+    granted entries ++ option_to_list (if_granted entry.answer (numbered_access (suc (length entries)) entry.request.strand access))
 access-granted entry entries access is = rw is refl
 
 -- a value that a cell held is that of the definition
@@ -218,7 +218,7 @@ module _ (shape : Shape) (entry : Entry) (entries : Entries) where
     books : AreBooksOf shape (entry ∷ entries) new
 
   books-reducer : (old new : Option Books) (number : ℕ) → number ≡ suc (length entries) → event_of entry ≡ None → Running (control_part entries) entry.request.strand →
-      OptionAnswersAccess old new number entry.request.strand entry.request.act entry.answer → AreBooksOf shape entries old → IsDone new
+      OptionAnswersAccess old new (answered_act number entry.request.strand entry.request.act entry.answer) → AreBooksOf shape entries old → IsDone new
   books-reducer None new number numbered none runs answers books = absurd answers
   books-reducer (Some old) None number numbered none runs answers books = absurd answers
   books-reducer (Some old) (Some new) number numbered none runs answers books =
@@ -254,8 +254,8 @@ books-some shape entries None kept = tt
 books-some shape entries (Some books) kept = (steps_of entries, granted_reads entries, kept.1, steps-control entries)
 
 -- the strands and the books are of one history
-pub kept-follows : (state : GateState) (strands : Roster) (shadow : List Cell) (books : Option Books) → IsKept state strands shadow books → FollowsWith strands books
-kept-follows state strands shadow books kept = (control_part state.history, kept.follows, books-some state.shape state.history books kept.reducers)
+pub kept-follows : (state : GateState) (tracks : TracksState) → IsKept state tracks → FollowsWith tracks.strands tracks.reducers
+kept-follows state tracks kept = (control_part state.history, kept.follows, books-some state.shape state.history tracks.reducers kept.reducers)
 
 books-still : (shape : Shape) (entries : Entries) (old new : Option Books) → OptionKeepsStill old new → AreBooksOf shape entries old → AreBooksOf shape entries new
 books-still shape entries None None still kept = kept
@@ -264,31 +264,31 @@ books-still shape entries (Some old) None still kept = absurd still
 books-still shape entries (Some old) (Some new) still kept = (still.monoids ∙ kept.0, still.keeps (steps_of entries) (granted_reads entries) kept.1)
 
 -- a refusal of memory changes nothing
-pub kept-still : (state : GateState) (strands after : Roster) (shadow : List Cell) (old new : Option Books) → IsKept state strands shadow old →
-    ((history : History) → Follows strands history → Follows after history) → OptionKeepsStill old new → IsKept state after shadow new
-kept-still state strands after shadow old new kept follows still = record {
+pub kept-still : (state : GateState) (tracks : TracksState) (after : Roster) (others : Option Books) → IsKept state tracks →
+    ((history : History) → Follows tracks.strands history → Follows after history) → OptionKeepsStill tracks.reducers others →
+    IsKept state (record tracks { strands = after; reducers = others })
+kept-still state tracks after others kept follows still = record {
   right = kept.right;
   follows = follows (control_part state.history) kept.follows;
   remembers = kept.remembers;
   locations = kept.locations;
   within = kept.within;
   limited = kept.limited;
-  reducers = books-still state.shape state.history old new still kept.reducers;
+  reducers = books-still state.shape state.history tracks.reducers others still kept.reducers;
 }
 
 -- ---- one more entry
 
-module _ (state : GateState) (strands : Roster) (shadow : List Cell) (books : Option Books) (kept : IsKept state strands shadow books) (entry : Entry)
-    (faultless : IsFaultless state entry.request) where
-  entered : (after : Roster) (marks : List Cell) (others : Option Books) (memory : List ℕ) → Belongs entry.request.act entry.answer →
+module _ (state : GateState) (tracks : TracksState) (kept : IsKept state tracks) (entry : Entry) (faultless : IsFaultless state entry.request) where
+  entered : (after : TracksState) (memory : List ℕ) → Belongs entry.request.act entry.answer →
       MatchOption (event_of entry) (Unit {0}) (Allowed (control_part state.history)) →
       MatchOption (cell_access entry.request.act) (Unit {0}) (λ access. IsRightVerdict state.history entry.request.strand access entry.answer) →
       IsRightFor (reads_before state.shape.monoids state.history) entry.request.strand entry.request.act
       entry.answer →
-      TakesPlace (effect_on_cell entry.request.act entry.answer) state.memory memory → Follows after (control_part (entry ∷ state.history)) →
-      Remembers marks (control_part (entry ∷ state.history)) (granted (entry ∷ state.history)) → length marks ≡ length shadow →
-      AreBooksOf state.shape (entry ∷ state.history) others → IsKept (record state { history = entry ∷ state.history; memory = memory }) after marks others
-  entered after marks others memory belongs allowed verdict right takes follows remembers len reducers = record {
+      TakesPlace (effect_on_cell entry.request.act entry.answer) state.memory memory → Follows after.strands (control_part (entry ∷ state.history)) →
+      Remembers after.shadow (control_part (entry ∷ state.history)) (granted (entry ∷ state.history)) → length after.shadow ≡ length tracks.shadow →
+      AreBooksOf state.shape (entry ∷ state.history) after.reducers → IsKept (record state { history = entry ∷ state.history; memory = memory }) after
+  entered after memory belongs allowed verdict right takes follows remembers len reducers = record {
     right = record {
       judged = record {
         legal = (kept.right.judged.legal, record { runs = faultless.runs; in_range = faultless.in_range; belongs = belongs; allowed = allowed });
@@ -308,28 +308,28 @@ module _ (state : GateState) (strands : Roster) (shadow : List Cell) (books : Op
   -- an event of control
   pub entered-control : (act : ControlAct) (after : Roster) (others : Option Books) → entry.request.act ≡ act_of_control act →
       GoesOn (control_part state.history) entry.request.strand entry.request.act entry.answer after →
-      ((event : Event) → event_of entry ≡ Some event → OptionKeepsOn books others event) →
-      IsKept (record state { history = entry ∷ state.history }) after shadow others
+      ((event : Event) → event_of entry ≡ Some event → OptionKeepsOn tracks.reducers others event) →
+      IsKept (record state { history = entry ∷ state.history }) (record tracks { strands = after; reducers = others })
   entered-control act after others is goes on =
       let no_access = control-asked entry.request.act act is in
       let part : control_part (entry ∷ state.history) ≡ goes.event ∷ control_part state.history = rw goes.is refl in
       let legal : Legal (goes.event ∷ control_part state.history) = goes.follows.legal in
-      let remembers : Remembers shadow (goes.event ∷ control_part state.history) (granted state.history) =
-      later_law shadow (granted state.history) (control_part state.history) (goes.event ∷ control_part state.history) (goes.event ∷ [], refl) legal kept.remembers in
+      let remembers : Remembers tracks.shadow (goes.event ∷ control_part state.history) (granted state.history) =
+      later_law tracks.shadow (granted state.history) (control_part state.history) (goes.event ∷ control_part state.history) (goes.event ∷ [], refl) legal kept.remembers in
       let step = control-step (suc (length state.history)) entry.request.strand entry.request.act act entry.answer is in
-      entered after shadow others state.memory goes.belongs (rw goes.is (last_allowed legal)) (rw no_access tt) (step.right (reads_before state.shape.monoids state.history))
+      entered (record tracks { strands = after; reducers = others }) state.memory goes.belongs (rw goes.is (last_allowed legal)) (rw no_access tt) (step.right (reads_before state.shape.monoids state.history))
       (rw (no_access-leaves entry.request.act entry.answer no_access) (record { len = refl; each = λ cell below. refl }))
       (subst (λ h. Follows after h) (sym part) goes.follows)
-      (subst (λ h. Remembers shadow h (granted (entry ∷ state.history))) (sym part)
-      (subst (λ xs. Remembers shadow (goes.event ∷ control_part state.history) xs) (sym (no_access-granted entry state.history no_access)) remembers)) refl
-      (books-event state.shape entry state.history books others goes.event goes.is (last_allowed legal) step.no_read (on goes.event goes.is) kept.reducers)
+      (subst (λ h. Remembers tracks.shadow h (granted (entry ∷ state.history))) (sym part)
+      (subst (λ xs. Remembers tracks.shadow (goes.event ∷ control_part state.history) xs) (sym (no_access-granted entry state.history no_access)) remembers)) refl
+      (books-event state.shape entry state.history tracks.reducers others goes.event goes.is (last_allowed legal) step.no_read (on goes.event goes.is) kept.reducers)
 
   -- an access of a cell
   pub entered-access : (access : CellAccess) (marks : List Cell) (memory : List ℕ) (number : ℕ) → number ≡ suc (length state.history) →
       cell_access entry.request.act ≡ Some access → access.location < state.shape.cells → Belongs entry.request.act entry.answer →
-      IsJudgedBy (control_part state.history) (granted state.history) entry.request.strand access number entry.answer marks →
+      IsJudgedBy (control_part state.history) (granted state.history) (numbered_access number entry.request.strand access) entry.answer marks →
       IfValue entry.answer (λ value. value ≡ slice_index state.memory access.location) → TakesPlace (effect_on_cell entry.request.act entry.answer) state.memory memory →
-      length marks ≡ length shadow → IsKept (record state { history = entry ∷ state.history; memory = memory }) strands marks books
+      length marks ≡ length tracks.shadow → IsKept (record state { history = entry ∷ state.history; memory = memory }) (record tracks { shadow = marks })
   entered-access access marks memory number numbered is in_range belongs judged value takes len =
       let step = cell-step (suc (length state.history)) entry.request.strand entry.request.act access entry.answer is in
       let part : control_part (entry ∷ state.history) ≡ control_part state.history = rw step.no_event refl in
@@ -338,29 +338,29 @@ module _ (state : GateState) (strands : Roster) (shadow : List Cell) (books : Op
         witness = judged.witness;
         value = value-held entry.answer _ _ (kept.right.memory.each access.location in_range) value;
       } in
-      entered strands marks books memory belongs (rw step.no_event tt) (rw is verdict) (step.right (reads_before state.shape.monoids state.history)) takes
-      (subst (λ h. Follows strands h) (sym part) kept.follows)
+      entered (record tracks { shadow = marks }) memory belongs (rw step.no_event tt) (rw is verdict) (step.right (reads_before state.shape.monoids state.history)) takes
+      (subst (λ h. Follows tracks.strands h) (sym part) kept.follows)
       (subst (λ h. Remembers marks h (granted (entry ∷ state.history))) (sym part)
       (subst (λ xs. Remembers marks (control_part state.history) xs) (sym (access-granted entry state.history access is))
       (subst (λ n. Remembers marks (control_part state.history)
-      (granted state.history ++ option_to_list (if_granted entry.answer (record { strand = entry.request.strand; kind = access.kind; location = access.location; entry = n }))))
+      (granted state.history ++ option_to_list (if_granted entry.answer (numbered_access n entry.request.strand access))))
       numbered judged.remembers))) len
-      (books-cell state.shape entry state.history books step.no_event step.step step.no_read faultless.runs kept.reducers)
+      (books-cell state.shape entry state.history tracks.reducers step.no_event step.step step.no_read faultless.runs kept.reducers)
 
   -- an access of a reducer
   pub entered-reducer : (act : ReducerAct) (others : Option Books) (number : ℕ) → number ≡ suc (length state.history) → entry.request.act ≡ act_of_reducer act →
-      OptionAnswersAccess books others number entry.request.strand entry.request.act entry.answer →
-      IsKept (record state { history = entry ∷ state.history }) strands shadow others
+      OptionAnswersAccess tracks.reducers others (answered_act number entry.request.strand entry.request.act entry.answer) →
+      IsKept (record state { history = entry ∷ state.history }) (record tracks { reducers = others })
   entered-reducer act others number numbered is answers =
       let none = reducer-no_event entry.request.strand entry.request.act act entry.answer is in
       let no_access = reducer-asked entry.request.act act is in
       let part : control_part (entry ∷ state.history) ≡ control_part state.history = rw none refl in
-      let done = books-reducer state.shape entry state.history books others number numbered none faultless.runs answers kept.reducers in
-      entered strands shadow others state.memory done.belongs (rw none tt) (rw no_access tt) done.right
+      let done = books-reducer state.shape entry state.history tracks.reducers others number numbered none faultless.runs answers kept.reducers in
+      entered (record tracks { reducers = others }) state.memory done.belongs (rw none tt) (rw no_access tt) done.right
       (rw (no_access-leaves entry.request.act entry.answer no_access) (record { len = refl; each = λ cell below. refl }))
-      (subst (λ h. Follows strands h) (sym part) kept.follows)
-      (subst (λ h. Remembers shadow h (granted (entry ∷ state.history))) (sym part)
-      (subst (λ xs. Remembers shadow (control_part state.history) xs) (sym (no_access-granted entry state.history no_access)) kept.remembers)) refl done.books
+      (subst (λ h. Follows tracks.strands h) (sym part) kept.follows)
+      (subst (λ h. Remembers tracks.shadow h (granted (entry ∷ state.history))) (sym part)
+      (subst (λ xs. Remembers tracks.shadow (control_part state.history) xs) (sym (no_access-granted entry state.history no_access)) kept.remembers)) refl done.books
 
 -- a whole slice that is written back
 pub written_back : (old new : List ℕ) (len : ℕ) → length old ≡ len → length new ≡ length old → take len (new ++ drop (length new) old) ≡ new

@@ -3,16 +3,13 @@ use Rattle.std.proofs.Common.{◌≡◌, ℕ, ◌≤◌, List, [], length, repli
 use Rattle.std.proofs.lemmas.List.{get_or-replicate}
 use Rattle.std.proofs.Math.ListN.{length-replicate}
 use Rattle.model_reducers.specs.declared.monoid.Monoid.{Monoid}
-use Rattle.sp_labels.specs.Roster.{Roster, Follows}
-use Rattle.shadow_history.specs.declared.cell.Cell.{Cell}
-use Rattle.shadow_history.specs.Shadow.{Remembers}
 use Rattle.model_histories.specs.Shapes.{Shape, most_entries}
 use Rattle.model_histories.specs.States.{opening}
 use Rattle.branch_names.specs.Names.{Follows as FollowsNames}
 use Rattle.view_read_rule.specs.Reads.{Remembers as RemembersReads}
 use Rattle.reducer_views.specs.Held.{Holds}
 use Rattle.race_gate.specs.Books.{Books, Keeps, OpensBooks}
-use Rattle.race_gate.specs.Kept.{AreBooksOf, IsKept}
+use Rattle.race_gate.specs.Kept.{TracksState, AreBooksOf, IsKept, OpensTracks}
 use Rattle.race_gate.specs.Cores.{IsCoreOf}
 use Rattle.race_gate.proofs.Races.{none-listed}
 
@@ -35,33 +32,30 @@ keeps-at_first books follows counted remembers holds = record {
   views = holds;
 }
 
-kept-at_first : (shape : Shape) (limit : ℕ) (strands : Roster) (shadow : List Cell) (books : Option Books) → Follows strands [] → Remembers shadow [] [] → length shadow ≡ shape.cells →
-    limit ≤ most_entries → OpensBooks books shape.monoids → IsKept (opening shape limit) strands shadow books
-kept-at_first shape limit strands shadow books follows remembers len small opens = record {
+kept-at_first : (shape : Shape) (limit : ℕ) (tracks : TracksState) → OpensTracks tracks shape.cells shape.monoids → limit ≤ most_entries → IsKept (opening shape limit) tracks
+kept-at_first shape limit tracks opens small = record {
   right = record {
     judged = record { legal = tt; memory = tt; reducers = tt };
     memory = record { len = length-replicate shape.cells 0; each = λ cell below. get_or-replicate shape.cells cell 0 0 below };
   };
-  follows = follows;
-  remembers = remembers;
-  locations = len;
+  follows = opens.follows;
+  remembers = opens.remembers;
+  locations = opens.locations;
   within = omega arith;
   limited = small;
-  reducers = books-at_first shape books opens;
+  reducers = books-at_first shape tracks.reducers opens.opens;
 }
 
 -- the core that has copied the shape
-pub core-opening : (shape made : Shape) (limit : ℕ) (memory : List ℕ) (strands : Roster) (shadow : List Cell) (books : Option Books) → made ≡ shape →
-    memory ≡ replicate made.cells 0 → Follows strands [] → Remembers shadow [] [] → length shadow ≡ made.cells → limit ≤ most_entries →
-    OpensBooks books made.monoids → IsCoreOf
-    (record { shape = made; limit = limit; stopped = false; entries = 0; finished = false; memory = memory; strands = strands; shadow = shadow; reducers = books })
-    (opening shape limit)
-core-opening shape made limit memory strands shadow books same zeros follows remembers len small opens =
+pub core-opening : (shape made : Shape) (limit : ℕ) (memory : List ℕ) (tracks : TracksState) → made ≡ shape → memory ≡ replicate made.cells 0 →
+    OpensTracks tracks made.cells made.monoids → limit ≤ most_entries → IsCoreOf
+    (record { shape = made; limit = limit; stopped = false; entries = 0; finished = false; memory = memory; tracks = tracks }) (opening shape limit)
+core-opening shape made limit memory tracks same zeros opens small =
     rw (zeros, ← same) record {
       shown = refl;
       counted = refl;
       finished = (λ is. absurd (cc), λ is. absurd is);
-      kept = kept-at_first made limit strands shadow books follows remembers len small opens;
+      kept = kept-at_first made limit tracks opens small;
     }
 
 abbrev the_shape : ℕ → List Monoid → Shape

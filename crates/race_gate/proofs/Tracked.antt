@@ -21,41 +21,40 @@ use Rattle.model_histories.specs.Legal.{Belongs}
 use Rattle.race_gate.specs.Accesses.{act_of_control, act_of_cell, act_of_reducer, access_of, reducer_of}
 use Rattle.model_races.specs.Memory.{effect_on_cell}
 use Rattle.model_races.specs.Verdicts.{IfValue}
-use Rattle.race_gate.specs.Books.{Books, OptionKeepsStill, OptionKeepsOn, OptionKeepsRunning, OptionHasReducer, OptionAnswersAccess}
+use Rattle.race_gate.specs.Books.{Books, answered_act, OptionKeepsStill, OptionKeepsOn, OptionKeepsRunning, OptionHasReducer, OptionAnswersAccess}
 use Rattle.model_histories.specs.States.{GateState}
-use Rattle.race_gate.specs.Kept.{IsKept, IsReady, with_entry}
-use Rattle.race_gate.specs.Steps.{FollowsWith, GoesOn, IsJudgedBy, TakesPlace}
+use Rattle.race_gate.specs.Kept.{TracksState, IsKept, IsReady, with_entry}
+use Rattle.race_gate.specs.Steps.{FollowsWith, GoesOn, numbered_access, IsJudgedBy, TakesPlace}
 use Rattle.race_gate.proofs.Followed.{running-in-each, synced-in-each, few-in-each}
 use Rattle.race_gate.proofs.Numbers.{not_few}
 use Rattle.race_gate.proofs.Entering.{in-cells, cell-asked, in-reducers, books-known, books-running, kept-follows, entered-access, entered-control, entered-reducer, kept-still}
 
-module _ (state : GateState) (strands : Roster) (shadow : List Cell) (books : Option Books) (memory : List ℕ) (request : Request) (number : ℕ)
-    (ready : IsReady state strands shadow books memory request number) where
+module _ (state : GateState) (tracks : TracksState) (memory : List ℕ) (request : Request) (number : ℕ) (ready : IsReady state tracks memory request number) where
   -- what the steps ask for
-  pub ready-runs : (history : History) → Follows strands history → Running history request.strand
+  pub ready-runs : (history : History) → Follows tracks.strands history → Running history request.strand
   ready-runs history follows = running-in-each _ _ history ready.kept.follows follows request.strand ready.faultless.runs
 
-  pub ready-synced : request.act ≡ Return → (history : History) → Follows strands history → IsSynced (stack history request.strand)
+  pub ready-synced : request.act ≡ Return → (history : History) → Follows tracks.strands history → IsSynced (stack history request.strand)
   ready-synced returns history follows =
       synced-in-each _ _ history ready.kept.follows follows request.strand ready.faultless.runs (ready.faultless.synced returns)
 
-  pub ready-numbers : (history : History) → Follows strands history → HasFewLeft history → ⊥
+  pub ready-numbers : (history : History) → Follows tracks.strands history → HasFewLeft history → ⊥
   ready-numbers history follows few =
       not_few _ _ ready.faultless.below ready.kept.limited (few-in-each _ _ history ready.kept.follows follows few)
 
-  pub ready-follows : FollowsWith strands books
-  ready-follows = kept-follows _ _ _ _ ready.kept
+  pub ready-follows : FollowsWith tracks.strands tracks.reducers
+  ready-follows = kept-follows _ _ ready.kept
 
-  pub ready-known : (act : ReducerAct) → request.act ≡ act_of_reducer act → OptionHasReducer books (reducer_of act)
+  pub ready-known : (act : ReducerAct) → request.act ≡ act_of_reducer act → OptionHasReducer tracks.reducers (reducer_of act)
   ready-known act is = books-known state.shape _ _ _ ready.kept.reducers (in-reducers _ _ act is ready.faultless.in_range)
 
-  pub ready-running : (act : ReducerAct) → request.act ≡ act_of_reducer act → OptionKeepsRunning books request.strand
+  pub ready-running : (act : ReducerAct) → request.act ≡ act_of_reducer act → OptionKeepsRunning tracks.reducers request.strand
   ready-running act is = books-running state.shape _ _ _ _ ready.kept.reducers (in-reducers _ _ act is ready.faultless.in_range) ready.faultless.runs
 
   pub ready-in_cells : (act : CellAct) → request.act ≡ act_of_cell act → (access_of act).location < state.shape.cells
   ready-in_cells act is = in-cells _ _ _ (cell-asked _ act is) ready.faultless.in_range
 
-  pub ready-in_shadow : (act : CellAct) → request.act ≡ act_of_cell act → (access_of act).location < length shadow
+  pub ready-in_shadow : (act : CellAct) → request.act ≡ act_of_cell act → (access_of act).location < length tracks.shadow
   ready-in_shadow act is = let below = ready-in_cells act is in omega (arith, ready.kept.locations)
 
   pub ready-in_memory : (act : CellAct) → request.act ≡ act_of_cell act → (access_of act).location < length memory
@@ -68,39 +67,41 @@ module _ (state : GateState) (strands : Roster) (shadow : List Cell) (books : Op
 
   -- what they answer
   pub answers-cell : (act : CellAct) (answer : Answer) (marks : List Cell) (cells : List ℕ) → request.act ≡ act_of_cell act → Belongs (act_of_cell act) answer →
-      ((history : History) (accesses : List Access) → Follows strands history → Remembers shadow history accesses →
-      IsJudgedBy history accesses request.strand (access_of act) number answer marks) → length marks ≡ length shadow →
+      ((history : History) (accesses : List Access) → Follows tracks.strands history → Remembers tracks.shadow history accesses →
+      IsJudgedBy history accesses (numbered_access number request.strand (access_of act)) answer marks) → length marks ≡ length tracks.shadow →
       IfValue answer (λ value. value ≡ slice_index memory (access_of act).location) → TakesPlace (effect_on_cell (act_of_cell act) answer) memory cells →
-      IsKept (with_entry state request answer cells) strands marks books
+      IsKept (with_entry state request answer cells) (record tracks { shadow = marks })
   answers-cell act answer marks cells is belongs judged len value takes =
-      entered-access state strands shadow books ready.kept (record { request = request; answer = answer }) ready.faultless (access_of act) marks cells number numbered
+      entered-access state tracks ready.kept (record { request = request; answer = answer }) ready.faultless (access_of act) marks cells number numbered
       (cell-asked _ act is) (ready-in_cells act is) (subst (λ asked. Belongs asked answer) (sym is) belongs) (judged _ _ ready.kept.follows ready.kept.remembers)
       (subst (λ xs. IfValue answer (λ value. value ≡ slice_index xs (access_of act).location)) ready.cells value)
       (subst (λ asked. TakesPlace (effect_on_cell asked answer) state.memory cells) (sym is)
       (subst (λ xs. TakesPlace (effect_on_cell (act_of_cell act) answer) xs cells) ready.cells takes)) len
 
   pub answers-control : (act : ControlAct) (after : Roster) (others : Option Books) (result : Result Answer GateFault) → request.act ≡ act_of_control act →
-      IfOk result (λ answer. (history : History) → Follows strands history → GoesOn history request.strand (act_of_control act) answer after) →
-      IfOk result (λ answer. (event : Event) → event_between request.strand (act_of_control act) answer ≡ Some event → OptionKeepsOn books others event) →
-      IfErr result (λ fault. fault ≡ Memory) → OnErr result ((history : History) → Follows strands history → Follows after history) →
-      OnErr result (OptionKeepsStill books others) → MatchResult result
-      (λ answer. IsKept (with_entry state request answer memory) after shadow others) (λ fault. (fault ≡ Memory) × IsKept state after shadow others)
+      IfOk result (λ answer. (history : History) → Follows tracks.strands history → GoesOn history request.strand (act_of_control act) answer after) →
+      IfOk result (λ answer. (event : Event) → event_between request.strand (act_of_control act) answer ≡ Some event → OptionKeepsOn tracks.reducers others event) →
+      IfErr result (λ fault. fault ≡ Memory) → OnErr result ((history : History) → Follows tracks.strands history → Follows after history) →
+      OnErr result (OptionKeepsStill tracks.reducers others) → MatchResult result
+      (λ answer. IsKept (with_entry state request answer memory) (record tracks { strands = after; reducers = others }))
+      (λ fault. (fault ≡ Memory) × IsKept state (record tracks { strands = after; reducers = others }))
   answers-control act after others (Ok answer) is goes on none follows still =
-      subst (λ cells. IsKept (with_entry state request answer cells) after shadow others) (sym ready.cells)
-      (entered-control state strands shadow books ready.kept (record { request = request; answer = answer }) ready.faultless act after others is
+      subst (λ cells. IsKept (with_entry state request answer cells) (record tracks { strands = after; reducers = others })) (sym ready.cells)
+      (entered-control state tracks ready.kept (record { request = request; answer = answer }) ready.faultless act after others is
       (subst (λ asked. GoesOn (control_part state.history) request.strand asked answer after) (sym is) (goes _ ready.kept.follows))
-      (subst (λ asked. (event : Event) → event_between request.strand asked answer ≡ Some event → OptionKeepsOn books others event) (sym is) on))
-  answers-control act after others (Err fault) is goes on none follows still = (none, kept-still _ _ _ _ _ _ ready.kept follows still)
+      (subst (λ asked. (event : Event) → event_between request.strand asked answer ≡ Some event → OptionKeepsOn tracks.reducers others event) (sym is) on))
+  answers-control act after others (Err fault) is goes on none follows still = (none, kept-still state tracks after others ready.kept follows still)
 
   pub answers-reducer : (act : ReducerAct) (others : Option Books) (result : Result Answer GateFault) → request.act ≡ act_of_reducer act →
-      IfOk result (OptionAnswersAccess books others number request.strand (act_of_reducer act)) → IfErr result (λ fault. fault ≡ Memory) →
-      OnErr result (OptionKeepsStill books others) → MatchResult result
-      (λ answer. IsKept (with_entry state request answer memory) strands shadow others) (λ fault. (fault ≡ Memory) × IsKept state strands shadow others)
+      IfOk result (λ answer. OptionAnswersAccess tracks.reducers others (answered_act number request.strand (act_of_reducer act) answer)) →
+      IfErr result (λ fault. fault ≡ Memory) → OnErr result (OptionKeepsStill tracks.reducers others) → MatchResult result
+      (λ answer. IsKept (with_entry state request answer memory) (record tracks { reducers = others }))
+      (λ fault. (fault ≡ Memory) × IsKept state (record tracks { reducers = others }))
   answers-reducer act others (Ok answer) is answers none still =
-      subst (λ cells. IsKept (with_entry state request answer cells) strands shadow others) (sym ready.cells)
-      (entered-reducer state strands shadow books ready.kept (record { request = request; answer = answer }) ready.faultless act others number numbered is
-      (subst (λ asked. OptionAnswersAccess books others number request.strand asked answer) (sym is) answers))
-  answers-reducer act others (Err fault) is answers none still = (none, kept-still _ _ _ _ _ _ ready.kept (λ history follows. follows) still)
+      subst (λ cells. IsKept (with_entry state request answer cells) (record tracks { reducers = others })) (sym ready.cells)
+      (entered-reducer state tracks ready.kept (record { request = request; answer = answer }) ready.faultless act others number numbered is
+      (subst (λ asked. OptionAnswersAccess tracks.reducers others (answered_act number request.strand asked answer)) (sym is) answers))
+  answers-reducer act others (Err fault) is answers none still = (none, kept-still state tracks tracks.strands others ready.kept (λ history follows. follows) still)
 
 -- cells that were not handed on are as they were
 pub with-same-cells : (P : Answer → Type 0) (K : Type 0) (cells : List ℕ) (result : Result Answer GateFault) →

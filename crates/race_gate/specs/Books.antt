@@ -84,19 +84,30 @@ pub record IsRefusal (history : History) (earlier : List ReducerRead) (strand re
   pub right : IsRightRead history earlier strand reducer new answer
   pub none : IsRefused answer ⊎ (answer ≡ Unset)
 
--- The answer to the strand's act after these steps is right, and the books are those of the steps and this one, which has the number.
-pub record IsAnswered (steps : Steps) (earlier : List ReducerRead)
-    (number strand : ℕ) (act : Act) (answer : Answer) (books : Books) : Type 0 where
-  pub belongs : Belongs act answer
+-- what a strand asked, the answer, and the number of their entry
+pub record AnsweredAct : Type 0 where
+  pub number : ℕ
+  pub strand : ℕ
+  pub act : Act
+  pub answer : Answer
+
+abbrev pub answered_act : (number strand : ℕ) → Act → Answer → AnsweredAct
+answered_act number strand act answer = record { number = number; strand = strand; act = act; answer = answer }
+
+-- The answer to the strand's act after these steps is right, and the books are those of the steps and this one.
+pub record IsAnswered (steps : Steps) (earlier : List ReducerRead) (done : AnsweredAct) (books : Books) : Type 0 where
+  pub belongs : Belongs done.act done.answer
   pub right : IsRightFor
-      (record { monoids = books.views.monoids; history = control_steps steps; steps = steps; earlier = earlier }) strand act answer
-  pub keeps : Keeps books (step_with None strand act answer ∷ steps) (earlier ++ option_to_list (read_at number strand act answer))
+      (record { monoids = books.views.monoids; history = control_steps steps; steps = steps; earlier = earlier })
+      done.strand done.act done.answer
+  pub keeps : Keeps books (step_with None done.strand done.act done.answer ∷ steps)
+      (earlier ++ option_to_list (read_at done.number done.strand done.act done.answer))
 
 -- it is so after all steps that were kept
-pub record AnswersAccess (old new : Books) (number strand : ℕ) (act : Act) (answer : Answer) : Type 0 where
+pub record AnswersAccess (old new : Books) (done : AnsweredAct) : Type 0 where
   pub monoids : new.views.monoids ≡ old.views.monoids
-  pub answered : (steps : Steps) (earlier : List ReducerRead) → Keeps old steps earlier → Running (control_steps steps) strand →
-      IsAnswered steps earlier number strand act answer new
+  pub answered : (steps : Steps) (earlier : List ReducerRead) → Keeps old steps earlier → Running (control_steps steps) done.strand →
+      IsAnswered steps earlier done new
 
 -- there is room for an event of control
 abbrev pub HasRoom : Books → Type 0
@@ -138,6 +149,6 @@ abbrev pub OptionHasReducer : Option Books → ℕ → Type 0
 OptionHasReducer None reducer = ⊥
 OptionHasReducer (Some books) reducer = reducer < length books.views.monoids
 
-abbrev pub OptionAnswersAccess : Option Books → Option Books → ℕ → ℕ → Act → Answer → Type 0
-OptionAnswersAccess (Some old) (Some new) number strand act answer = AnswersAccess old new number strand act answer
-OptionAnswersAccess old new number strand act answer = ⊥
+abbrev pub OptionAnswersAccess : Option Books → Option Books → AnsweredAct → Type 0
+OptionAnswersAccess (Some old) (Some new) done = AnswersAccess old new done
+OptionAnswersAccess old new done = ⊥

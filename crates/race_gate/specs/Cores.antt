@@ -1,8 +1,6 @@
 -- What a gate is without the list of its entries.
-use Rattle.std.specs.Prelude.{◌≡◌, ◌↔◌, ℕ, Bool, IsTrue, List, length, Option, Result, Ok, Err}
+use Rattle.std.specs.Prelude.{◌≡◌, ◌↔◌, ℕ, Bool, IsTrue, List, length, Result, Ok, Err}
 use Rattle.model_accesses.specs.declared.request.Request.{Request}
-use Rattle.sp_labels.specs.Roster.{Roster}
-use Rattle.shadow_history.specs.declared.cell.Cell.{Cell}
 use Rattle.model_histories.specs.declared.answer.Answer.{Answer}
 use Rattle.model_histories.specs.declared.reply.Reply.{Reply}
 use Rattle.model_histories.specs.declared.reply.Reply.TheVariants.{Done, Illegal}
@@ -11,8 +9,7 @@ use Rattle.model_histories.specs.Entries.{Entries}
 use Rattle.model_histories.specs.Shapes.{Shape}
 use Rattle.model_histories.specs.Extensions.{IsFinished}
 use Rattle.model_histories.specs.States.{GateState}
-use Rattle.race_gate.specs.Books.{Books}
-use Rattle.race_gate.specs.Kept.{IsKept}
+use Rattle.race_gate.specs.Kept.{TracksState, IsKept}
 
 -- what a core shows: the shape and the limit that it was made with, whether it was stopped, how many entries there were, whether the root
 -- function has returned, the cells' values, and what is kept of the strands, of the granted accesses of cells, and of the reducers
@@ -23,9 +20,7 @@ pub record CoreState : Type 0 where
   pub entries : ℕ
   pub finished : Bool
   pub memory : List ℕ
-  pub strands : Roster
-  pub shadow : List Cell
-  pub reducers : Option Books
+  pub tracks : TracksState
 
 -- the state of a gate that has the core and these entries
 abbrev pub with_history : CoreState → Entries → GateState
@@ -37,7 +32,7 @@ pub record IsCoreOf (core : CoreState) (state : GateState) : Type 0 where
   pub shown : with_history core state.history ≡ state
   pub counted : core.entries ≡ length state.history
   pub finished : IsTrue core.finished ↔ IsFinished state.history
-  pub kept : IsKept state core.strands core.shadow core.reducers
+  pub kept : IsKept state core.tracks
 
 -- some state fits
 abbrev pub IsCore : CoreState → Type 0

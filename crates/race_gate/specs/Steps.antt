@@ -33,14 +33,19 @@ pub record GoesOn (history : History) (strand : ℕ) (act : Act) (answer : Answe
 abbrev pub if_granted : Answer → Access → Option Access
 if_granted answer access = if is_granted answer then Some access else None
 
+-- the kind and the cell of an access
+abbrev pub cell_part : Access → CellAccess
+cell_part access = record { kind = access.kind; location = access.location }
+
+-- the access by this strand, whose entry has this number
+abbrev pub numbered_access : (number strand : ℕ) → CellAccess → Access
+numbered_access number strand access = record { strand = strand; kind = access.kind; location = access.location; entry = number }
+
 -- the answer is right by these accesses, and they go on with this one if it was granted
-pub record IsJudgedBy (history : History) (accesses : List Access) (strand : ℕ)
-    (access : CellAccess) (number : ℕ) (answer : Answer) (shadow : List Cell) : Type 0 where
-  pub refused : IsRefused answer ↔ HasRace history accesses strand access
-  pub witness : IfRefused answer (IsTrueWitness history accesses strand access)
-  pub remembers : Remembers shadow history
-      (accesses ++
-      option_to_list (if_granted answer (record { strand = strand; kind = access.kind; location = access.location; entry = number })))
+pub record IsJudgedBy (history : History) (accesses : List Access) (access : Access) (answer : Answer) (shadow : List Cell) : Type 0 where
+  pub refused : IsRefused answer ↔ HasRace history accesses access.strand (cell_part access)
+  pub witness : IfRefused answer (IsTrueWitness history accesses access.strand (cell_part access))
+  pub remembers : Remembers shadow history (accesses ++ option_to_list (if_granted answer access))
 
 -- what a cell holds after an effect, by what it held before
 abbrev pub after : CellEffect → ℕ → ℕ → ℕ

@@ -53,6 +53,7 @@ impl<A: Allocator + Clone> Drop for Core<A> {
 
 impl<A: Allocator + Clone> Model for Core<A> {
     ghost use Rattle.race_gate.specs.Shapes.{shape_of};
+    ghost use Rattle.race_gate.specs.Kept.{tracks_of};
     ghost use Rattle.race_gate.specs.Cores.{CoreState, IsCore};
 
     ghost Value = { CoreState };
@@ -64,9 +65,7 @@ impl<A: Allocator + Clone> Model for Core<A> {
       entries = core.entries;
       finished = core.finished;
       memory = core.memory.items;
-      strands = core.tracks.strands;
-      shadow = core.tracks.shadow;
-      reducers = core.tracks.reducers;
+      tracks = tracks_of core.tracks;
     } };
 
     ghost invariant = { λ core. IsCore (record {
@@ -76,9 +75,7 @@ impl<A: Allocator + Clone> Model for Core<A> {
       entries = core.entries;
       finished = core.finished;
       memory = core.memory.items;
-      strands = core.tracks.strands;
-      shadow = core.tracks.shadow;
-      reducers = core.tracks.reducers;
+      tracks = tracks_of core.tracks;
     }) };
 }
 

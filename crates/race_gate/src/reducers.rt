@@ -10,7 +10,7 @@ ghost use Rattle.model_accesses.specs.Reads.{ReducerRead};
 ghost use Rattle.model_histories.specs.Entries.{event_between};
 ghost use Rattle.race_gate.specs.Accesses.{act_of_reducer, reducer_of};
 ghost use Rattle.race_gate.specs.Books.{Keeps, KeepsRunning, KeepsStill, KeepsOn, TakesEvent, HasRoom, HasRoomFor};
-ghost use Rattle.race_gate.specs.Books.{IsRefusal, MayRead, AnswersAccess, OpensBooks};
+ghost use Rattle.race_gate.specs.Books.{IsRefusal, MayRead, answered_act, AnswersAccess, OpensBooks};
 
 use crate::access::ReducerAct;
 use access_table::{Kind, rule};
@@ -102,7 +102,7 @@ impl<A: Allocator + Clone> ReducerTracks<A> {
         requires in_range { reducer_of act < length self.old.views.monoids }
         requires room { HasRoomFor self.old act }
         requires keeps { KeepsRunning self.old strand }
-        ensures { AnswersAccess self.old self.new number strand (act_of_reducer act) result }
+        ensures { AnswersAccess self.old self.new (answered_act number strand (act_of_reducer act) result) }
     {
         match act {
             ReducerAct::Update(reducer, value) => self.update(strand, reducer, value),
@@ -137,7 +137,7 @@ impl<A: Allocator + Clone> ReducerTracks<A> {
         requires in_range { reducer < length self.old.views.monoids }
         requires room { self.old.views.has_room ≡ true }
         requires keeps { KeepsRunning self.old strand }
-        ensures { (number : ℕ) → AnswersAccess self.old self.new number strand (Act.Update reducer value) result }
+        ensures { (number : ℕ) → AnswersAccess self.old self.new (answered_act number strand (Act.Update reducer value) result) }
     {
         self.views.update(strand, reducer, value);
         Answer::Granted
@@ -168,7 +168,7 @@ impl<A: Allocator + Clone> ReducerTracks<A> {
         requires in_range { reducer < length self.old.views.monoids }
         requires room { self.old.views.has_room ≡ true }
         requires keeps { KeepsRunning self.old strand }
-        ensures { AnswersAccess self.old self.new number strand (Act.Put reducer value) result }
+        ensures { AnswersAccess self.old self.new (answered_act number strand (Act.Put reducer value) result) }
     {
         if let Some(refused) = self.refusal(strand, reducer, Kind::Put) {
             return refused;
@@ -183,7 +183,7 @@ impl<A: Allocator + Clone> ReducerTracks<A> {
     fn get(&mut self, number: u32, strand: u32, reducer: u32) -> Answer
         requires in_range { reducer < length self.old.views.monoids }
         requires keeps { KeepsRunning self.old strand }
-        ensures { AnswersAccess self.old self.new number strand (Act.Get reducer) result }
+        ensures { AnswersAccess self.old self.new (answered_act number strand (Act.Get reducer) result) }
     {
         if let Some(refused) = self.refusal(strand, reducer, Kind::Get) {
             return refused;

@@ -13,11 +13,11 @@ ghost use Rattle.model_histories.specs.Shapes.{IsInRange};
 ghost use Rattle.model_histories.specs.Entries.{event_between};
 ghost use Rattle.model_histories.specs.Legal.{Belongs};
 ghost use Rattle.race_gate.specs.Books.{KeepsStill, KeepsOn, OptionKeepsStill, OptionKeepsOn, OptionKeepsRunning};
-ghost use Rattle.race_gate.specs.Books.{OptionAnswersAccess, OptionHasReducer};
+ghost use Rattle.race_gate.specs.Books.{answered_act, OptionAnswersAccess, OptionHasReducer};
 ghost use Rattle.model_races.specs.Accesses.{is_granted};
 ghost use Rattle.model_races.specs.Memory.{effect_on_cell};
 ghost use Rattle.model_races.specs.Verdicts.{IfValue};
-ghost use Rattle.race_gate.specs.Steps.{FollowsWith, GoesOn, IsJudgedBy, TakesPlace};
+ghost use Rattle.race_gate.specs.Steps.{FollowsWith, GoesOn, numbered_access, IsJudgedBy, TakesPlace};
 
 use crate::access::{CellAct, ControlAct, ReducerAct, access_of};
 use crate::reducers::ReducerTracks;
@@ -196,7 +196,7 @@ pub fn judge_access<A: Allocator>(
     requires in_memory { (access_of act).location < length memory.old }
     ensures belongs { Belongs (act_of_cell act) result }
     ensures judged { (history : History) (accesses : List Access) → Follows strands.now history → Remembers shadow.old history accesses →
-        IsJudgedBy history accesses strand (access_of act) number result shadow.new }
+        IsJudgedBy history accesses (numbered_access number strand (access_of act)) result shadow.new }
     ensures locations { length shadow.new ≡ length shadow.old }
     ensures value { IfValue result (λ value. value ≡ slice_index memory.old (access_of act).location) }
     ensures memory { TakesPlace (effect_on_cell (act_of_cell act) result) memory.old memory.new }
@@ -246,7 +246,8 @@ pub fn judge_reducer<A: Allocator + Clone>(
 ) -> Result<Answer, GateFault>
     requires in_range { OptionHasReducer reducers.old (reducer_of act) }
     requires keeps { OptionKeepsRunning reducers.old strand }
-    ensures ok { IfOk result (OptionAnswersAccess reducers.old reducers.new number strand (act_of_reducer act)) }
+    ensures ok { IfOk result (λ answer.
+        OptionAnswersAccess reducers.old reducers.new (answered_act number strand (act_of_reducer act) answer)) }
     ensures err { IfErr result (λ fault. fault ≡ GateFault.Memory) }
     ensures still { OnErr result (OptionKeepsStill reducers.old reducers.new) }
 {

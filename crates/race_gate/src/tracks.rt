@@ -4,7 +4,7 @@ ghost use Rattle.std.specs.Prelude.{◌≡◌, ◌<◌, ◌^◌, ℕ, List, [], 
 ghost use Rattle.model_strands.specs.History.{History};
 ghost use Rattle.sp_labels.specs.Roster.{Follows};
 ghost use Rattle.shadow_history.specs.Shadow.{Remembers};
-ghost use Rattle.race_gate.specs.Kept.{IsKept, IsReady, OpensTracks, with_entry};
+ghost use Rattle.race_gate.specs.Kept.{IsKept, IsReady, OpensTracks, tracks_of, with_entry};
 ghost use Rattle.model_histories.specs.States.{GateState};
 ghost use Rattle.race_gate.specs.Accesses.{act_of_control, act_of_cell, act_of_reducer};
 
@@ -47,7 +47,7 @@ impl<A: Allocator + Clone> Tracks<A> {
     /// What is kept of these cells and reducers before any entry.
     pub fn new(alloc: &A, cells: u32, monoids: &[Monoid]) -> Result<Tracks<A>, AllocError>
         requires { length monoids.now < 2 ^ 32 }
-        ensures { IfOk result (λ tracks. OpensTracks tracks.strands tracks.shadow tracks.reducers cells monoids.now) }
+        ensures { IfOk result (λ tracks. OpensTracks (tracks_of tracks) cells monoids.now) }
     {
         Ok(Tracks {
             strands: opening_strands(alloc)?,
@@ -65,12 +65,10 @@ impl<A: Allocator + Clone> Tracks<A> {
         number: u32,
         request: Request,
     ) -> Result<Answer, GateFault>
-        requires { (state : GateState) × IsReady state self.old.strands self.old.shadow self.old.reducers memory.old request number }
-        ensures { (state : GateState) → IsReady state self.old.strands self.old.shadow self.old.reducers memory.old request number →
-            MatchResult result
-            (λ answer. IsKept (with_entry state request answer memory.new) self.new.strands self.new.shadow self.new.reducers)
-            (λ fault. (fault ≡ GateFault.Memory) × (memory.new ≡ memory.old)
-            × IsKept state self.new.strands self.new.shadow self.new.reducers) }
+        requires { (state : GateState) × IsReady state (tracks_of self.old) memory.old request number }
+        ensures { (state : GateState) → IsReady state (tracks_of self.old) memory.old request number → MatchResult result
+            (λ answer. IsKept (with_entry state request answer memory.new) (tracks_of self.new))
+            (λ fault. (fault ≡ GateFault.Memory) × (memory.new ≡ memory.old) × IsKept state (tracks_of self.new)) }
     {
         match sort_of(request.act) {
             Sort::Cell(act) => Ok(self.access_cell(memory, number, request, act)),
@@ -89,9 +87,9 @@ impl<A: Allocator + Clone> Tracks<A> {
         act: CellAct,
     ) -> Answer
         requires is { request.act ≡ act_of_cell act }
-        requires ready { (state : GateState) × IsReady state self.old.strands self.old.shadow self.old.reducers memory.old request number }
-        ensures { (state : GateState) → IsReady state self.old.strands self.old.shadow self.old.reducers memory.old request number →
-            IsKept (with_entry state request result memory.new) self.new.strands self.new.shadow self.new.reducers }
+        requires ready { (state : GateState) × IsReady state (tracks_of self.old) memory.old request number }
+        ensures { (state : GateState) → IsReady state (tracks_of self.old) memory.old request number →
+            IsKept (with_entry state request result memory.new) (tracks_of self.new) }
     {
         judge_access(
             &self.strands,
@@ -112,12 +110,10 @@ impl<A: Allocator + Clone> Tracks<A> {
         act: ReducerAct,
     ) -> Result<Answer, GateFault>
         requires is { request.act ≡ act_of_reducer act }
-        requires ready { (state : GateState) × (cells : List ℕ) ×
-            IsReady state self.old.strands self.old.shadow self.old.reducers cells request number }
-        ensures { (state : GateState) (cells : List ℕ) →
-            IsReady state self.old.strands self.old.shadow self.old.reducers cells request number → MatchResult result
-            (λ answer. IsKept (with_entry state request answer cells) self.new.strands self.new.shadow self.new.reducers)
-            (λ fault. (fault ≡ GateFault.Memory) × IsKept state self.new.strands self.new.shadow self.new.reducers) }
+        requires ready { (state : GateState) × (cells : List ℕ) × IsReady state (tracks_of self.old) cells request number }
+        ensures { (state : GateState) (cells : List ℕ) → IsReady state (tracks_of self.old) cells request number → MatchResult result
+            (λ answer. IsKept (with_entry state request answer cells) (tracks_of self.new))
+            (λ fault. (fault ≡ GateFault.Memory) × IsKept state (tracks_of self.new)) }
     {
         judge_reducer(&mut self.reducers, number, request.strand, act)
     }
@@ -131,12 +127,10 @@ impl<A: Allocator + Clone> Tracks<A> {
         act: ControlAct,
     ) -> Result<Answer, GateFault>
         requires is { request.act ≡ act_of_control act }
-        requires ready { (state : GateState) × (cells : List ℕ) ×
-            IsReady state self.old.strands self.old.shadow self.old.reducers cells request number }
-        ensures { (state : GateState) (cells : List ℕ) →
-            IsReady state self.old.strands self.old.shadow self.old.reducers cells request number → MatchResult result
-            (λ answer. IsKept (with_entry state request answer cells) self.new.strands self.new.shadow self.new.reducers)
-            (λ fault. (fault ≡ GateFault.Memory) × IsKept state self.new.strands self.new.shadow self.new.reducers) }
+        requires ready { (state : GateState) × (cells : List ℕ) × IsReady state (tracks_of self.old) cells request number }
+        ensures { (state : GateState) (cells : List ℕ) → IsReady state (tracks_of self.old) cells request number → MatchResult result
+            (λ answer. IsKept (with_entry state request answer cells) (tracks_of self.new))
+            (λ fault. (fault ≡ GateFault.Memory) × IsKept state (tracks_of self.new)) }
     {
         control(&mut self.strands, &mut self.reducers, request.strand, act)
     }

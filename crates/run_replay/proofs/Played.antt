@@ -14,7 +14,7 @@ use Rattle.frame_steps.specs.Frames.{Stands}
 use Rattle.model_runs.specs.Frames.{IsSplit}
 use Rattle.run_replay.specs.Turns.{IsEntered, IsTurn, HasNoTurn}
 use Rattle.run_replay.specs.declared.frame_table.Slot.{Slot}
-use Rattle.run_replay.specs.FrameTables.{new_places, IsBegun, IsMisfit, Plays}
+use Rattle.run_replay.specs.FrameTables.{new_places, placed_frames, IsBegun, IsMisfit, Plays}
 use Rattle.run_replay.specs.Slots.{IsHome, AreHeld, PlaysIn}
 use Rattle.run_replay.proofs.Plays.{item_below, its_place_there, went_on, split_on, split_target}
 use Rattle.run_replay.proofs.Openings.{judged_so, plays_on, turn_misfit}
@@ -22,30 +22,30 @@ use Rattle.run_replay.proofs.Slots.{same_item, held_turn}
 use Rattle.run_replay.proofs.Turns.{over_none}
 
 -- the frame of a its_place
-module _ (functions : List Code) (shape : Shape) (gate : GateState) (frames : List FrameState) (places : List ℕ) (plays : Plays functions shape gate frames places) (entry : Entry)
+module _ (functions : List Code) (shape : Shape) (gate : GateState) (frames : List FrameState) (places : List ℕ) (plays : Plays functions shape gate (placed_frames frames places)) (entry : Entry)
     (place : ℕ) (its_place : slice_get places entry.request.strand ≡ Some place) where
   pub place_there : place < length frames
-  place_there = its_place_there functions shape plays.main plays.is_main plays.targets gate.history frames places plays.cast entry place its_place
+  place_there = its_place_there functions shape plays.main plays.is_main plays.targets gate.history frames places plays.is_table entry place its_place
 
   module _ (before after : FrameState) (target : Option Target) (gate2 : GateState) (got : slice_get frames place ≡ Some before) (turn : IsTurn functions entry target before after)
       (entered : IsEntered entry gate gate2) where
-    pub plays_calm : (IsSplit entry.answer → ⊥) → Plays functions shape gate2 (set frames place after) places
+    pub plays_calm : (IsSplit entry.answer → ⊥) → Plays functions shape gate2 (placed_frames (set frames place after) places)
     plays_calm calm =
         plays_on functions shape gate frames places plays entry gate2 entered _ (set frames place after) places
-        (went_on functions shape plays.main plays.is_main plays.targets gate.history frames places plays.cast entry place before after target
+        (went_on functions shape plays.main plays.is_main plays.targets gate.history frames places plays.is_table entry place before after target
         (judged_so functions shape gate frames places plays entry gate2 entered) its_place got turn calm)
 
     pub plays_split : (strands : Spawned) → entry.answer ≡ Split strands → (one : Target) → target ≡ Some one → (frames2 : List FrameState) →
         IsBegun functions one (set frames place after) frames2 → (places2 : List ℕ) →
-        places2 ≡ places ++ new_places strands.first (length (set frames place after)) place → Plays functions shape gate2 frames2 places2
+        places2 ≡ places ++ new_places strands.first (length (set frames place after)) place → Plays functions shape gate2 (placed_frames frames2 places2)
     plays_split strands split one some frames2 begun places2 sat =
         plays_on functions shape gate frames places plays entry gate2 entered _ frames2 places2
-        (split_on functions shape plays.main plays.is_main plays.targets gate.history frames places plays.cast entry place before after target
+        (split_on functions shape plays.main plays.is_main plays.targets gate.history frames places plays.is_table entry place before after target
         (judged_so functions shape gate frames places plays entry gate2 entered) its_place got turn strands split one some frames2 begun places2 sat)
 
     pub targeted : (strands : Spawned) → entry.answer ≡ Split strands → target ≡ None → ⊥
     targeted strands split none =
-        split_target functions shape plays.main plays.is_main plays.targets gate.history frames places plays.cast entry place before after target
+        split_target functions shape plays.main plays.is_main plays.targets gate.history frames places plays.is_table entry place before after target
         (judged_so functions shape gate frames places plays entry gate2 entered) its_place got turn strands split none
 
 -- the slot of a its_place
@@ -75,7 +75,7 @@ module _ {A : Type 0} (functions : List Code) (shape : Shape) (gate : GateState)
       got e = frame.1 ∙ ap Some (sym (own e))
 
       pub slot_stands : slot.number ≡ place → Stands functions slot.frame
-      slot_stands e = (plays.2.cast.each place _ slot.frame (plays.2.cast.placed entry.request.strand place its_place) (got e)).0
+      slot_stands e = (plays.2.is_table.each place _ slot.frame (plays.2.is_table.placed entry.request.strand place its_place) (got e)).0
 
       pub slot_misfit : (slot.number ≢ place) ⊎ ((slot.number ≡ place) × HasNoTurn functions entry slot.frame) → IsMisfit functions shape entry gate
       slot_misfit (inl other) =

@@ -31,7 +31,7 @@ use Rattle.model_runs.specs.Runs.{IsRun, IsRunWith}
 use Rattle.law_runs.proofs.Strands.{SplitFrames, split_frames}
 use Rattle.law_runs.proofs.Histories.{said_here, said_elsewhere, said_before, said_same, frame_before, begun_before, split_spawns, run_shorter}
 use Rattle.run_replay.specs.Turns.{asks, target_or, IsTurn, HasNoTurn}
-use Rattle.run_replay.specs.FrameTables.{begun_by, frames_in, new_places, IsBegun, IsFrameTable}
+use Rattle.run_replay.specs.FrameTables.{begun_by, frames_in, new_places, placed_frames, IsBegun, IsFrameTable}
 use Rattle.run_replay.proofs.Items.{got_kept, got_behind, got_cases, got_one, got_set, set_length, append_length}
 use Rattle.run_replay.proofs.Frames.{place_of_frame, frame_at_place, one_place, not_split, same_unused, frame_kept, new_count, new_place}
 
@@ -47,7 +47,7 @@ pub same_some : {A : Type 0} (x y : A) → Some x ≡ Some y → x ≡ y
 same_some x y e = cc
 
 module _ (functions : List Code) (shape : Shape) (main : ℕ) (is_main : IsMain functions main) (targets : Targets) (entries : Entries) (frames : List FrameState) (places : List ℕ)
-    (cast : IsFrameTable functions shape main targets entries frames places) (entry : Entry) where
+    (is_table : IsFrameTable functions shape main targets entries (placed_frames frames places)) (entry : Entry) where
   here : ℕ
   here = frame_in entries entry.request.strand
 
@@ -57,11 +57,11 @@ module _ (functions : List Code) (shape : Shape) (main : ℕ) (is_main : IsMain 
       (said_by targets entries (frame_in entries entry.request.strand)) (exchange_of others (next_frame entries) entry)
   follow place its_place others run =
       let n = frame_in entries entry.request.strand in
-      let has : HasFrame entries n = frame_at_place entries place n (cast.placed entry.request.strand place its_place) in
-      let agree = cast.only others (run_shorter functions shape main others entry entries run) in
+      let has : HasFrame entries n = frame_at_place entries place n (is_table.placed entry.request.strand place its_place) in
+      let agree = is_table.only others (run_shorter functions shape main others entry entries run) in
       let x = exchange_of others (next_frame entries) entry in
       let said : said_by others (entry ∷ entries) n ≡ said_by targets entries n ++ x ∷ [] =
-      said_here others entry entries n refl ∙ ap (λ l. l ++ x ∷ []) (said_same shape others targets entries cast.run.judged.legal agree n) in
+      said_here others entry entries n refl ∙ ap (λ l. l ++ x ∷ []) (said_same shape others targets entries is_table.run.judged.legal agree n) in
       let P : Target → List Exchange → Type 0 = λ t l. DialogueOf functions t.function t.argument Part l in
       subst (λ t. P t (said_by targets entries n ++ x ∷ [])) (agree n has) (subst (P (others n)) said (run.says n (later n has)))
     where
@@ -77,21 +77,21 @@ module _ (functions : List Code) (shape : Shape) (main : ℕ) (is_main : IsMain 
       HasNoTurn functions entry frame → IsRun functions shape (entry ∷ entries) → ⊥
   misfit_turn place frame its_place got none run =
       let n = frame_in entries entry.request.strand in
-      none _ _ _ _ (cast.each place n frame (cast.placed entry.request.strand place its_place) got).1 (follow place its_place run.targets (same_main run))
+      none _ _ _ _ (is_table.each place n frame (is_table.placed entry.request.strand place its_place) got).1 (follow place its_place run.targets (same_main run))
 
   -- nor where the strand has no its_place
   pub misfit_place : slice_get places entry.request.strand ≡ None → IsRun functions shape (entry ∷ entries) → ⊥
   misfit_place none run =
-      let known = strand-known (legal-part shape entries cast.run.judged.legal) entry.request.strand run.run.judged.legal.1.runs in
-      let count = cast.strands in
+      let known = strand-known (legal-part shape entries is_table.run.judged.legal) entry.request.strand run.run.judged.legal.1.runs in
+      let count = is_table.strands in
       let item = item_below places entry.request.strand (omega arith) in
       let clash : None ≡ Some item.0 = sym none ∙ item.1 in
       cc
 
   pub its_place_there : (place : ℕ) → slice_get places entry.request.strand ≡ Some place → place < length frames
   its_place_there place its_place =
-      let within = slice_get_within (frames_in entries) place _ (cast.placed entry.request.strand place its_place) in
-      let count = cast.counted in
+      let within = slice_get_within (frames_in entries) place _ (is_table.placed entry.request.strand place its_place) in
+      let count = is_table.counted in
       omega arith
 
   module _ (place : ℕ) (before after : FrameState) (target : Option Target) (judged : IsJudged shape (entry ∷ entries)) (its_place : slice_get places entry.request.strand ≡ Some place)
@@ -108,7 +108,7 @@ module _ (functions : List Code) (shape : Shape) (main : ℕ) (is_main : IsMain 
 
     at_old : (frame : ℕ) → HasFrame entries frame → grown frame ≡ targets frame
     at_old frame has =
-        let below = begun_before shape entries cast.run.judged.legal frame has in
+        let below = begun_before shape entries is_table.run.judged.legal frame has in
         updated_off targets (next_frame entries) (target_or target (targets (next_frame entries))) frame (λ e. absurd (omega arith))
 
     exchange_is : exchange_of grown (next_frame entries) entry ≡ asks entry target
@@ -117,7 +117,7 @@ module _ (functions : List Code) (shape : Shape) (main : ℕ) (is_main : IsMain 
         λ i. record { act = entry.request.act; line = entry.request.line; target = e i; answer = entry.answer }
 
     said_old : (frame : ℕ) → said_by grown entries frame ≡ said_by targets entries frame
-    said_old frame = said_same shape grown targets entries cast.run.judged.legal at_old frame
+    said_old frame = said_same shape grown targets entries is_table.run.judged.legal at_old frame
 
     moved : (number : ℕ) (frame : FrameState) (history : List Exchange) → HasFrame entries number → said_by grown (entry ∷ entries) number ≡ history →
         IsAfter functions (targets number).function (targets number).argument history frame →
@@ -133,8 +133,8 @@ module _ (functions : List Code) (shape : Shape) (main : ℕ) (is_main : IsMain 
         elim (got_set frames place after k frame is) [
           | inl s ↦ (
               let n = frame_in entries entry.request.strand in
-              let same : number ≡ n = same_some number n (sym at ∙ ap (slice_get (frames_in entries)) s.0 ∙ cast.placed entry.request.strand place its_place) in
-              let old = (cast.each place n before (cast.placed entry.request.strand place its_place) got).1 in
+              let same : number ≡ n = same_some number n (sym at ∙ ap (slice_get (frames_in entries)) s.0 ∙ is_table.placed entry.request.strand place its_place) in
+              let old = (is_table.each place n before (is_table.placed entry.request.strand place its_place) got).1 in
               let said : said_by grown (entry ∷ entries) number ≡ said_by targets entries number ++ asks entry target ∷ [] =
               said_here grown entry entries number (sym same) ∙ ap (λ l. l ++ exchange_of grown (next_frame entries) entry ∷ []) (said_old number) ∙
               ap (λ x. said_by targets entries number ++ x ∷ []) exchange_is in
@@ -144,27 +144,27 @@ module _ (functions : List Code) (shape : Shape) (main : ℕ) (is_main : IsMain 
               )
           | inr o ↦ (
               let n = frame_in entries entry.request.strand in
-              let other : n ≢ number = λ e. o.0 (one_place shape entries cast.run.judged.legal k place number at (cast.placed entry.request.strand place its_place ∙ ap Some e)) in
-              let old = cast.each k number frame at o.1 in
+              let other : n ≢ number = λ e. o.0 (one_place shape entries is_table.run.judged.legal k place number at (is_table.placed entry.request.strand place its_place ∙ ap Some e)) in
+              let old = is_table.each k number frame at o.1 in
               (old.0, moved number frame (said_by targets entries number) (frame_at_place entries k number at) (said_elsewhere grown entry entries number other ∙ said_old number) old.1)
               )
         ]
 
     root_is : grown 0 ≡ record { function = main; argument = 0 }
-    root_is = at_old 0 (inl refl) ∙ cast.run.root
+    root_is = at_old 0 (inl refl) ∙ is_table.run.root
 
     -- no run with the entry has other targets
     only_grown : (others : Targets) → IsRunWith functions shape main others (entry ∷ entries) → (frame : ℕ) → HasFrame (entry ∷ entries) frame → others frame ≡ grown frame
     only_grown others run frame (inl e) = ap others e ∙ run.root ∙ sym root_is ∙ ap grown (sym e)
     only_grown others run frame (inr (inl s)) =
         let n = frame_in entries entry.request.strand in
-        let old = (cast.each place n before (cast.placed entry.request.strand place its_place) got).1 in
+        let old = (is_table.each place n before (is_table.placed entry.request.strand place its_place) got).1 in
         let spawned : target_of entry.request.act (others (next_frame entries)) ≡ target = turn.only _ _ _ (exchange_of others (next_frame entries) entry) old (follow place its_place others run) in
         let act = split_spawns entry.request.act entry.answer judged.legal.1.belongs s.1 in
         let some : Some (others (next_frame entries)) ≡ target = ap (λ a. target_of a (others (next_frame entries))) (sym act) ∙ spawned in
         ap others s.0 ∙ ap (λ o. target_or o (targets (next_frame entries))) some ∙ sym at_next ∙ ap grown (sym s.0)
     only_grown others run frame (inr (inr has)) =
-        cast.only others (run_shorter functions shape main others entry entries run) frame (inr has) ∙ sym (at_old frame (inr has))
+        is_table.only others (run_shorter functions shape main others entry entries run) frame (inr has) ∙ sym (at_old frame (inr has))
 
     module _ (frames2 : List FrameState) (places2 : List ℕ) (counted : length frames2 ≡ length (frames_in (entry ∷ entries)))
         (each : (k number : ℕ) (frame : FrameState) → slice_get (frames_in (entry ∷ entries)) k ≡ Some number → slice_get frames2 k ≡ Some frame →
@@ -178,7 +178,7 @@ module _ (functions : List Code) (shape : Shape) (main : ℕ) (is_main : IsMain 
           let item = item_below frames2 p.0 (omega arith) in
           after_part functions item.0 _ _ _ (each p.0 number item.0 p.1 item.1).1
 
-      built : IsFrameTable functions shape main grown (entry ∷ entries) frames2 places2
+      built : IsFrameTable functions shape main grown (entry ∷ entries) (placed_frames frames2 places2)
       built = record {
         run = record { judged = judged; root = root_is; says = says };
         only = only_grown;
@@ -192,17 +192,17 @@ module _ (functions : List Code) (shape : Shape) (main : ℕ) (is_main : IsMain 
     place_kept : (strand k : ℕ) → slice_get places strand ≡ Some k → slice_get (frames_in (entry ∷ entries)) k ≡ Some (frame_in (entry ∷ entries) strand)
     place_kept strand k is =
         let within = slice_get_within places strand k is in
-        let count = cast.strands in
+        let count = is_table.strands in
         got_kept (frames_in entries) (begun_by entry.answer (next_frame entries)) k (frame_in (entry ∷ entries) strand)
-        (cast.placed strand k is ∙ ap Some (sym (frame_kept shape entry entries judged.legal strand (omega arith))))
+        (is_table.placed strand k is ∙ ap Some (sym (frame_kept shape entry entries judged.legal strand (omega arith))))
 
     -- the entry is no split
-    pub went_on : (IsSplit entry.answer → ⊥) → IsFrameTable functions shape main grown (entry ∷ entries) (set frames place after) places
+    pub went_on : (IsSplit entry.answer → ⊥) → IsFrameTable functions shape main grown (entry ∷ entries) (placed_frames (set frames place after) places)
     went_on calm =
         let same : frames_in (entry ∷ entries) ≡ frames_in entries =
         ap (λ l. frames_in entries ++ l) (not_split entry.answer calm (next_frame entries)) ∙ append-nil (frames_in entries) in
-        built (set frames place after) places (set_length frames place after ∙ cast.counted ∙ ap length (sym same))
-        (λ k number frame at is. each_old k number frame (ap (λ l. slice_get l k) (sym same) ∙ at) is) (cast.strands ∙ sym (same_unused entry entries calm)) place_kept
+        built (set frames place after) places (set_length frames place after ∙ is_table.counted ∙ ap length (sym same))
+        (λ k number frame at is. each_old k number frame (ap (λ l. slice_get l k) (sym same) ∙ at) is) (is_table.strands ∙ sym (same_unused entry entries calm)) place_kept
 
     -- the entry is a split
     module _ (strands : Spawned) (is : entry.answer ≡ Split strands) (one : Target) (some : target ≡ Some one) (frames2 : List FrameState)
@@ -235,7 +235,7 @@ module _ (functions : List Code) (shape : Shape) (main : ℕ) (is_main : IsMain 
       frames_are = ap (λ a. frames_in entries ++ begun_by a (next_frame entries)) is
 
       as_many : length kept ≡ length (frames_in entries)
-      as_many = set_length frames place after ∙ cast.counted
+      as_many = set_length frames place after ∙ is_table.counted
 
       counted2 : length frames2 ≡ length (frames_in (entry ∷ entries))
       counted2 =
@@ -288,12 +288,12 @@ module _ (functions : List Code) (shape : Shape) (main : ℕ) (is_main : IsMain 
       strands2 : length places2 ≡ unused (control_part (entry ∷ entries))
       strands2 =
           let count = new_count (control_part entries) entry.request.strand strands.child strands.next strands.join strands.first (length (set frames place after)) place in
-          ap length sat ∙ append_length places news ∙ ap (λ n. n + length news) cast.strands ∙ sym count ∙ ap unused (sym part_is)
+          ap length sat ∙ append_length places news ∙ ap (λ n. n + length news) is_table.strands ∙ sym count ∙ ap unused (sym part_is)
 
       stands_at : (strand behind frame : ℕ) → strand ≡ length places + behind →
           frame_of (stack (event ∷ control_part entries) (unused (control_part entries) + behind)) ≡ frame → frame_in (entry ∷ entries) strand ≡ frame
       stands_at strand behind frame e f =
-          ap (λ l. frame_of (stack l strand)) part_is ∙ ap (λ x. frame_of (stack (event ∷ control_part entries) x)) (e ∙ ap (λ n. n + behind) cast.strands) ∙ f
+          ap (λ l. frame_of (stack l strand)) part_is ∙ ap (λ x. frame_of (stack (event ∷ control_part entries) x)) (e ∙ ap (λ n. n + behind) is_table.strands) ∙ f
 
       placed2 : (strand k : ℕ) → slice_get places2 strand ≡ Some k → slice_get (frames_in (entry ∷ entries)) k ≡ Some (frame_in (entry ∷ entries) strand)
       placed2 strand k got2 =
@@ -303,12 +303,12 @@ module _ (functions : List Code) (shape : Shape) (main : ℕ) (is_main : IsMain 
               | inl child ↦ ap (slice_get (frames_in (entry ∷ entries))) (child.0 ∙ as_many) ∙ ap (λ l. slice_get l (length (frames_in entries))) frames_are ∙
                   got_behind (frames_in entries) (next_frame entries) [] ∙ ap Some (sym (stands_at strand new.0 (next_frame entries) new.1 child.1))
               | inr spawner ↦ ap (slice_get (frames_in (entry ∷ entries))) spawner.0 ∙
-                  got_kept (frames_in entries) (begun_by entry.answer (next_frame entries)) place (frame_in entries entry.request.strand) (cast.placed entry.request.strand place its_place) ∙
+                  got_kept (frames_in entries) (begun_by entry.answer (next_frame entries)) place (frame_in entries entry.request.strand) (is_table.placed entry.request.strand place its_place) ∙
                   ap Some (sym (stands_at strand new.0 (frame_in entries entry.request.strand) new.1 spawner.1))
             ]
           ]
 
-      pub split_on : IsFrameTable functions shape main grown (entry ∷ entries) frames2 places2
+      pub split_on : IsFrameTable functions shape main grown (entry ∷ entries) (placed_frames frames2 places2)
       split_on = built frames2 places2 counted2 each2 strands2 placed2
 
     -- a split has a target

@@ -12,7 +12,7 @@ use Rattle.model_histories.specs.Extensions.{IsFinished}
 use Rattle.model_bodies.specs.Codes.{Code}
 use Rattle.frame_steps.specs.States.{FrameState}
 use Rattle.model_runs.specs.Runs.{IsRun, IsFinishedRun}
-use Rattle.run_replay.specs.FrameTables.{Plays, IsMisfit}
+use Rattle.run_replay.specs.FrameTables.{placed_frames, Plays, IsMisfit}
 use Rattle.run_replay.specs.Replays.{IsUnfinishedRun, IsStrange}
 use Rattle.run_replay.proofs.Openings.{plays_run, told}
 
@@ -37,7 +37,7 @@ more_played entries index other old new below played before =
     played ∙ ap (λ l. get_or entries index other ∷ l) before ∙
     sym (ap reverse (take_more entries index other below) ∙ reverse-append (take index entries) (get_or entries index other ∷ []))
 
-module _ (functions : List Code) (shape : Shape) (gate : GateState) (frames : List FrameState) (places : List ℕ) (plays : Plays functions shape gate frames places)
+module _ (functions : List Code) (shape : Shape) (gate : GateState) (frames : List FrameState) (places : List ℕ) (plays : Plays functions shape gate (placed_frames frames places))
     (entries : List Entry) (index : ℕ) (history : gate.history ≡ reverse (take index entries)) where
   strange_there : (entry : Entry) (number : ℕ) → index < length entries → entry ≡ get_or entries index entry → number ≡ suc (length gate.history) →
       IsMisfit functions shape entry gate → IsStrange functions shape entries number

@@ -21,7 +21,7 @@ use Rattle.model_runs.specs.Frames.{HasFrame, frame_in, said_by}
 use Rattle.model_runs.specs.Runs.{IsRunWith}
 use Rattle.law_runs.proofs.Histories.{said_same}
 use Rattle.run_replay.specs.Turns.{IsEntered}
-use Rattle.run_replay.specs.FrameTables.{Plays}
+use Rattle.run_replay.specs.FrameTables.{placed_frames, Plays}
 use Rattle.run_replay.specs.declared.frame_table.Slot.{Slot}
 use Rattle.run_replay.specs.Slots.{PlaysIn}
 use Rattle.run_replay.specs.Wraps.{FrameWraps, EntryWraps, FirstWrap}
@@ -30,13 +30,13 @@ use Rattle.run_replay.proofs.Plays.{item_below, same_some}
 use Rattle.run_replay.proofs.Openings.{judged_so}
 use Rattle.run_replay.proofs.Played.{frame, house, got, same_slot}
 
-module _ (functions : List Code) (shape : Shape) (gate : GateState) (frames : List FrameState) (places : List ℕ) (plays : Plays functions shape gate frames places) (entry : Entry) where
+module _ (functions : List Code) (shape : Shape) (gate : GateState) (frames : List FrameState) (places : List ℕ) (plays : Plays functions shape gate (placed_frames frames places)) (entry : Entry) where
   -- the strand of an entry has its place
   pub has_place : (after : GateState) → IsEntered entry gate after → slice_get places entry.request.strand ≡ None → ⊥
   has_place after entered none =
       let judged = judged_so functions shape gate frames places plays entry after entered in
-      let known = strand-known (legal-part shape gate.history plays.cast.run.judged.legal) entry.request.strand judged.legal.1.runs in
-      let count = plays.cast.strands in
+      let known = strand-known (legal-part shape gate.history plays.is_table.run.judged.legal) entry.request.strand judged.legal.1.runs in
+      let count = plays.is_table.strands in
       let item = item_below places entry.request.strand (omega arith) in
       let clash : None ≡ Some item.0 = sym none ∙ item.1 in
       cc
@@ -47,8 +47,8 @@ module _ (functions : List Code) (shape : Shape) (gate : GateState) (frames : Li
   any_targets index has w =
       let n = frame_in gate.history entry.request.strand in
       let run = subst (λ m. IsRunWith functions shape m w.targets gate.history) (same_some w.main plays.main (sym w.is_main ∙ plays.is_main)) w.run in
-      let agree = plays.cast.only w.targets run in
-      let said : said_by w.targets gate.history n ≡ said_by plays.targets gate.history n = said_same shape w.targets plays.targets gate.history plays.cast.run.judged.legal agree n in
+      let agree = plays.is_table.only w.targets run in
+      let said : said_by w.targets gate.history n ≡ said_by plays.targets gate.history n = said_same shape w.targets plays.targets gate.history plays.is_table.run.judged.legal agree n in
       subst (λ (t : Target). Wraps functions t.function t.argument (said_by plays.targets gate.history n) index) (agree n has)
       (subst (λ l. Wraps functions (w.targets n).function (w.targets n).argument l index) said w.wraps)
 
@@ -56,8 +56,8 @@ module _ (functions : List Code) (shape : Shape) (gate : GateState) (frames : Li
       (result ≡ Some index) ↔ FrameWraps functions plays.targets gate.history (frame_in gate.history entry.request.strand) index →
       (result ≡ Some index) ↔ EntryWraps functions shape gate.history entry index
   frame_wraps place its_place result index so = (
-    (λ e. record { main = plays.main; is_main = plays.is_main; targets = plays.targets; run = plays.cast.run; wraps = so.0 e }),
-    (λ w. so.1 (any_targets index (frame_at_place gate.history place (frame_in gate.history entry.request.strand) (plays.cast.placed entry.request.strand place its_place)) w)),
+    (λ e. record { main = plays.main; is_main = plays.is_main; targets = plays.targets; run = plays.is_table.run; wraps = so.0 e }),
+    (λ w. so.1 (any_targets index (frame_at_place gate.history place (frame_in gate.history entry.request.strand) (plays.is_table.placed entry.request.strand place its_place)) w)),
   )
 
   -- by the frame that stands at the place
@@ -68,7 +68,7 @@ module _ (functions : List Code) (shape : Shape) (gate : GateState) (frames : Li
   placed_wraps place one its_place at result so index =
       let n = frame_in gate.history entry.request.strand in
       frame_wraps place its_place result index
-      (so _ _ _ (plays.cast.each place n one (plays.cast.placed entry.request.strand place its_place) at).1 index)
+      (so _ _ _ (plays.is_table.each place n one (plays.is_table.placed entry.request.strand place its_place) at).1 index)
 
 -- by the slot that the frame has
 pub slot_wraps : {A : Type 0} (functions : List Code) (shape : Shape) (gate : GateState) (slots : List (Slot A)) (homes places : List ℕ) (plays : PlaysIn functions shape gate slots homes places)

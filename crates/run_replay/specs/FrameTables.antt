@@ -38,32 +38,40 @@ pub record IsBegun (functions : List Code) (target : Target) (before after : Lis
   pub begun : IsAfter functions target.function target.argument [] frame
   pub pushed : after ≡ before ++ frame ∷ []
 
+-- frames in order of their spawns, and for each strand the place of its frame among them
+pub record PlacedFrames : Type 0 where
+  pub frames : List FrameState
+  pub places : List ℕ
+
+abbrev pub placed_frames : List FrameState → (places : List ℕ) → PlacedFrames
+placed_frames frames places = record { frames = frames; places = places }
+
 -- the function of `main` alone has begun, before a gate without entries
-pub record Opens (functions : List Code) (shape : Shape) (gate : GateState) (frames : List FrameState) (places : List ℕ) : Type 0 where
+pub record Opens (functions : List Code) (shape : Shape) (gate : GateState) (table : PlacedFrames) : Type 0 where
   pub main : ℕ
   pub is_main : IsMain functions main
   pub gate_is : gate ≡ opening shape most_entries
   pub frame : FrameState
   pub stands : Stands functions frame
   pub begun : IsAfter functions main 0 [] frame
-  pub frames_are : frames ≡ frame ∷ []
-  pub places_are : places ≡ 0 ∷ []
+  pub frames_are : table.frames ≡ frame ∷ []
+  pub places_are : table.places ≡ 0 ∷ []
 
 -- The frames are those of the entries, each after what it said with these targets, and no run of these entries has other targets.
 pub record IsFrameTable (functions : List Code) (shape : Shape) (main : ℕ) (targets : Targets)
-    (entries : Entries) (frames : List FrameState) (places : List ℕ) : Type 0 where
+    (entries : Entries) (table : PlacedFrames) : Type 0 where
   pub run : IsRunWith functions shape main targets entries
   pub only : (others : Targets) → IsRunWith functions shape main others entries → (frame : ℕ) → HasFrame entries frame →
       others frame ≡ targets frame
-  pub counted : length frames ≡ length (frames_in entries)
-  pub each : (place number : ℕ) (frame : FrameState) → slice_get (frames_in entries) place ≡ Some number → slice_get frames place ≡ Some frame →
+  pub counted : length table.frames ≡ length (frames_in entries)
+  pub each : (place number : ℕ) (frame : FrameState) → slice_get (frames_in entries) place ≡ Some number → slice_get table.frames place ≡ Some frame →
       Stands functions frame × IsAfter functions (targets number).function (targets number).argument (said_by targets entries number) frame
-  pub strands : length places ≡ unused (control_part entries)
-  pub placed : (strand place : ℕ) → slice_get places strand ≡ Some place →
+  pub strands : length table.places ≡ unused (control_part entries)
+  pub placed : (strand place : ℕ) → slice_get table.places strand ≡ Some place →
       slice_get (frames_in entries) place ≡ Some (frame_in entries strand)
 
 -- So it is for some targets, and the gate has these entries.
-pub record Plays (functions : List Code) (shape : Shape) (gate : GateState) (frames : List FrameState) (places : List ℕ) : Type 0 where
+pub record Plays (functions : List Code) (shape : Shape) (gate : GateState) (table : PlacedFrames) : Type 0 where
   pub shape_is : gate.shape ≡ shape
   pub limit_is : gate.limit ≡ most_entries
   pub going : gate.stopped ≡ false
@@ -71,7 +79,7 @@ pub record Plays (functions : List Code) (shape : Shape) (gate : GateState) (fra
   pub main : ℕ
   pub is_main : IsMain functions main
   pub targets : Targets
-  pub cast : IsFrameTable functions shape main targets gate.history frames places
+  pub is_table : IsFrameTable functions shape main targets gate.history table
 
 -- the gate has one more entry
 abbrev pub IsPlayed : Entry → GateState → GateState → Type 0

@@ -6,7 +6,7 @@ use Rattle.model_bodies.specs.Codes.{Code}
 use Rattle.frame_steps.specs.States.{FrameState}
 use Rattle.frame_steps.specs.declared.phase.Phase.TheVariants.{Over}
 use Rattle.run_replay.specs.declared.frame_table.Slot.{Slot}
-use Rattle.run_replay.specs.FrameTables.{Opens, Plays}
+use Rattle.run_replay.specs.FrameTables.{placed_frames, Opens, Plays}
 
 -- The frame of this number stands in this slot, or the slot has another's number, and the frame has ended.
 pub record IsHome {A : Type 0} (slots : List (Slot A)) (home number : ℕ) (frame : FrameState) : Type 0 where
@@ -24,9 +24,9 @@ pub record AreHeld {A : Type 0} (slots : List (Slot A)) (homes : List ℕ) (fram
 -- Frames with these homes open.
 abbrev pub OpensIn : {A : Type 0} → List Code → Shape → GateState → List (Slot A) → (homes places : List ℕ) → Type 0
 OpensIn functions shape gate slots homes places =
-    (frames : List FrameState) × AreHeld slots homes frames × Opens functions shape gate frames places
+    (frames : List FrameState) × AreHeld slots homes frames × Opens functions shape gate (placed_frames frames places)
 
 -- Frames with these homes play.
 abbrev pub PlaysIn : {A : Type 0} → List Code → Shape → GateState → List (Slot A) → (homes places : List ℕ) → Type 0
 PlaysIn functions shape gate slots homes places =
-    (frames : List FrameState) × AreHeld slots homes frames × Plays functions shape gate frames places
+    (frames : List FrameState) × AreHeld slots homes frames × Plays functions shape gate (placed_frames frames places)

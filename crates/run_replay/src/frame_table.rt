@@ -120,9 +120,9 @@ fn slot_wrap<A: Allocator, B: Allocator>(
 impl<A: Allocator + Copy> FrameTable<A> {
     /// The root function before its first request.
     pub fn open<B: Allocator>(alloc: A, program: &Program<B>) -> Result<FrameTable<A>, AllocError>
-        ensures { IfOk result (λ cast.
+        ensures { IfOk result (λ table.
             OpensIn program.now.functions (shape_in program.now) (opening (shape_in program.now) most_entries)
-            cast.slots.items cast.homes.items cast.places.items) }
+            table.slots.items table.homes.items table.places.items) }
     {
         let frame = Frame::new(alloc, program, program.main(), 0);
         let slots = list_of_one(alloc, Slot { number: 0, frame })?;

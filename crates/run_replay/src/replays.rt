@@ -73,34 +73,34 @@ fn core_of<A: Allocator + Copy, B: Allocator>(
 /// Has a core judge an entry, and plays it.
 fn judge_and_play<A: Allocator + Copy, B: Allocator>(
     core: &mut Core<A>,
-    cast: &mut FrameTable<A>,
+    table: &mut FrameTable<A>,
     program: &Program<B>,
     entry: Entry,
 ) -> Result<(), Misfit>
     requires plays { (state : GateState) × PlaysIn program.now.functions (shape_in program.now) state
-        cast.old.slots.items cast.old.homes.items cast.old.places.items }
+        table.old.slots.items table.old.homes.items table.old.places.items }
     ensures ok { (state : GateState) → IsCoreOf core.old state → PlaysIn program.now.functions (shape_in program.now) state
-        cast.old.slots.items cast.old.homes.items cast.old.places.items →
+        table.old.slots.items table.old.homes.items table.old.places.items →
         OnOk result ((next : GateState) × IsCoreOf core.new next × PlaysIn program.now.functions (shape_in program.now) next
-        cast.new.slots.items cast.new.homes.items cast.new.places.items × IsPlayed entry state next) }
+        table.new.slots.items table.new.homes.items table.new.places.items × IsPlayed entry state next) }
     ensures strange { (state : GateState) → IsCoreOf core.old state → PlaysIn program.now.functions (shape_in program.now) state
-        cast.old.slots.items cast.old.homes.items cast.old.places.items →
+        table.old.slots.items table.old.homes.items table.old.places.items →
         result ≡ Err Misfit.Strange → IsMisfit program.now.functions (shape_in program.now) entry state }
 {
     confirm(core, entry)?;
-    cast.play(program, entry)
+    table.play(program, entry)
 }
 
 /// Plays the entries, the oldest first, on what has been opened, before a fresh core.
 fn play_all<A: Allocator + Copy, B: Allocator>(
     core: &mut Core<A>,
-    cast: &mut FrameTable<A>,
+    table: &mut FrameTable<A>,
     program: &Program<B>,
     entries: &[Entry],
 ) -> Result<(), ReplayFault>
     requires core { IsCoreOf core.old (opening (shape_in program.now) most_entries) }
     requires opens { OpensIn program.now.functions (shape_in program.now)
-        (opening (shape_in program.now) most_entries) cast.old.slots.items cast.old.homes.items cast.old.places.items }
+        (opening (shape_in program.now) most_entries) table.old.slots.items table.old.homes.items table.old.places.items }
     ensures finished { OnOk result (IsFinishedRun program.now.functions (shape_in program.now) (reverse entries.now)) }
     ensures unfinished { result ≡ Err ReplayFault.Unfinished →
         IsUnfinishedRun program.now.functions (shape_in program.now) (reverse entries.now) }
@@ -109,7 +109,7 @@ fn play_all<A: Allocator + Copy, B: Allocator>(
 {
     for entry in entries {
         let number = next_number(core);
-        match judge_and_play(core, cast, program, *entry) {
+        match judge_and_play(core, table, program, *entry) {
             Ok(()) => {}
             Err(Misfit::Strange) => return Err(ReplayFault::Strange(number)),
             Err(Misfit::Memory) => return Err(ReplayFault::Memory),
@@ -132,14 +132,14 @@ fn is_finished<A: Allocator>(entries: &Entries<A>) -> bool
 
 /// Plays entries that are judged, the oldest first, on what has been opened.
 fn follow_all<A: Allocator + Copy, B: Allocator, C: Allocator>(
-    cast: &mut FrameTable<A>,
+    table: &mut FrameTable<A>,
     program: &Program<B>,
     entries: &Entries<C>,
 ) -> Result<(), ReplayFault>
     requires judged { IsJudged (shape_in program.now) (reverse entries.now.items) }
     requires within { length entries.now.items ≤ most_entries }
     requires opens { OpensIn program.now.functions (shape_in program.now)
-        (opening (shape_in program.now) most_entries) cast.old.slots.items cast.old.homes.items cast.old.places.items }
+        (opening (shape_in program.now) most_entries) table.old.slots.items table.old.homes.items table.old.places.items }
     ensures finished { OnOk result (IsFinishedRun program.now.functions (shape_in program.now) (reverse entries.now.items)) }
     ensures unfinished { result ≡ Err ReplayFault.Unfinished →
         IsUnfinishedRun program.now.functions (shape_in program.now) (reverse entries.now.items) }
@@ -147,7 +147,7 @@ fn follow_all<A: Allocator + Copy, B: Allocator, C: Allocator>(
         IsStrange program.now.functions (shape_in program.now) entries.now.items number }
 {
     for at in 0..entries.len() {
-        match cast.play(program, entries.get(at)) {
+        match table.play(program, entries.get(at)) {
             Ok(()) => {}
             Err(Misfit::Strange) => return Err(ReplayFault::Strange(at as u32 + 1)),
             Err(Misfit::Memory) => return Err(ReplayFault::Memory),
@@ -190,14 +190,14 @@ pub fn replay<A: Allocator + Copy, B: Allocator>(
     ensures strange { (number : ℕ) → result ≡ Err (ReplayFault.Strange number) →
         IsStrange program.now.functions (shape_in program.now) entries.now number }
 {
-    let mut cast = FrameTable::open(alloc, program)?;
+    let mut table = FrameTable::open(alloc, program)?;
     let mut core = core_of(alloc, program)?;
     let spawns = spawns_of(entries);
     if spawns >= MANY_SPAWNS {
         core.make_room(spawns.saturating_mul(3));
-        cast.make_room(spawns);
+        table.make_room(spawns);
     }
-    play_all(&mut core, &mut cast, program, entries)
+    play_all(&mut core, &mut table, program, entries)
 }
 
 /// What [`replay`] says of these entries, where it is known that they are judged, as those of a gate are: no core judges them again. Room
@@ -218,10 +218,10 @@ pub fn follow<A: Allocator + Copy, B: Allocator, C: Allocator>(
         let entries = entries.to_vec(alloc)?;
         return replay(alloc, program, entries.as_slice());
     }
-    let mut cast = FrameTable::open(alloc, program)?;
+    let mut table = FrameTable::open(alloc, program)?;
     let spawns = entries.len() / ENTRIES_OF_SPAWN;
     if spawns >= MANY_SPAWNS {
-        cast.make_room(spawns);
+        table.make_room(spawns);
     }
-    follow_all(&mut cast, program, entries)
+    follow_all(&mut table, program, entries)
 }

@@ -58,30 +58,30 @@ fn keep_wrap<A: Allocator + Copy>(
 
 /// Keeps the index that an entry wraps, and plays the entry.
 fn keep_and_play<A: Allocator + Copy, B: Allocator>(
-    cast: &mut FrameTable<A>,
+    table: &mut FrameTable<A>,
     wraps: &mut Wraps<A>,
     program: &Program<B>,
     entry: Entry,
 ) -> Result<(), Misfit>
     requires plays { (state : GateState) × PlaysIn program.now.functions (shape_in program.now) state
-        cast.old.slots.items cast.old.homes.items cast.old.places.items }
+        table.old.slots.items table.old.homes.items table.old.places.items }
     ensures { (state next : GateState) → PlaysIn program.now.functions (shape_in program.now) state
-        cast.old.slots.items cast.old.homes.items cast.old.places.items → IsEntered entry state next →
+        table.old.slots.items table.old.homes.items table.old.places.items → IsEntered entry state next →
         AreWraps program.now.functions (shape_in program.now) state.history wraps.old →
         OnOk result (PlaysIn program.now.functions (shape_in program.now) next
-        cast.new.slots.items cast.new.homes.items cast.new.places.items
+        table.new.slots.items table.new.homes.items table.new.places.items
         × AreWraps program.now.functions (shape_in program.now) next.history wraps.new) }
 {
-    let wrap = cast.next_wrap(program, entry);
+    let wrap = table.next_wrap(program, entry);
     match keep_wrap(wraps, entry.request.line, wrap) {
-        Ok(()) => cast.play(program, entry),
+        Ok(()) => table.play(program, entry),
         Err(_) => Err(Misfit::Memory),
     }
 }
 
 /// Keeps the indexes that these entries wrap, the oldest first, on what has been opened.
 fn keep_all<A: Allocator + Copy, B: Allocator, C: Allocator>(
-    cast: &mut FrameTable<A>,
+    table: &mut FrameTable<A>,
     wraps: &mut Wraps<A>,
     program: &Program<B>,
     entries: &Entries<C>,
@@ -89,12 +89,12 @@ fn keep_all<A: Allocator + Copy, B: Allocator, C: Allocator>(
     requires judged { IsJudged (shape_in program.now) (reverse entries.now.items) }
     requires within { length entries.now.items ≤ most_entries }
     requires opens { OpensIn program.now.functions (shape_in program.now)
-        (opening (shape_in program.now) most_entries) cast.old.slots.items cast.old.homes.items cast.old.places.items }
+        (opening (shape_in program.now) most_entries) table.old.slots.items table.old.homes.items table.old.places.items }
     requires none { (line : ℕ) → index_at wraps.old line ≡ None }
     ensures { OnOk result (AreWraps program.now.functions (shape_in program.now) (reverse entries.now.items) wraps.new) }
 {
     for at in 0..entries.len() {
-        keep_and_play(cast, wraps, program, entries.get(at))?;
+        keep_and_play(table, wraps, program, entries.get(at))?;
     }
     Ok(())
 }
@@ -112,11 +112,11 @@ pub fn find_wraps<A: Allocator + Copy, B: Allocator, C: Allocator>(
     requires within { length entries.now.items ≤ most_entries }
     ensures { IfOk result (λ wraps. AreWraps program.now.functions (shape_in program.now) (reverse entries.now.items) wraps) }
 {
-    let mut cast = match FrameTable::open(alloc, program) {
-        Ok(cast) => cast,
+    let mut table = match FrameTable::open(alloc, program) {
+        Ok(table) => table,
         Err(_) => return Err(Misfit::Memory),
     };
     let mut wraps = BTreeMap::new(alloc);
-    keep_all(&mut cast, &mut wraps, program, entries)?;
+    keep_all(&mut table, &mut wraps, program, entries)?;
     Ok(wraps)
 }

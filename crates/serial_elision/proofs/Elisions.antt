@@ -20,9 +20,9 @@ use Rattle.serial_elision.specs.declared.activation.ElidedCall.{ElidedCall}
 use Rattle.model_programs.specs.Values.{Registers, first_registers}
 use Rattle.model_programs.specs.Scripts.{closing, script, numbers}
 use Rattle.model_programs.specs.Evaluation.{Effect, effect, Store, Evaluates}
-use Rattle.serial_elision.specs.Evaluation.{Standing, StackEvaluates, Leads}
+use Rattle.serial_elision.specs.Evaluation.{Standing, StackEvaluates, configuration, Leads}
 use Rattle.model_programs.specs.Elisions.{first_store, HasMain, Elides, NeedsMore}
-use Rattle.serial_elision.specs.States.{ElisionState, store_of, with_store, with_top, moved, turning, begun, with_begun, left_at, left_in, standing_in, standing, callers_of, stack_in, stack_of, are_turns, length_in, IsInPlace, Stands, Makes, IsOpening, IsLeft, is_left, first_state}
+use Rattle.serial_elision.specs.States.{ElisionState, store_of, with_store, with_top, moved, turning, begun, with_begun, left_at, left_in, standing_in, standing, callers_of, stack_in, stack_of, configuration_of, are_turns, length_in, IsInPlace, Stands, Makes, IsOpening, IsLeft, is_left, first_state}
 use Rattle.program_text.proofs.Taken.{main_below}
 use Rattle.function_steps.proofs.Trees.{and_then_assoc, if_left}
 use Rattle.function_steps.proofs.Places.{drop_at, found}
@@ -91,9 +91,9 @@ module _ (functions : List Code) (monoids : List Monoid) where
   callers_pushed : (callers : List ElidedCall) (caller : ElidedCall) → callers_of functions (callers ++ caller ∷ []) ≡ standing functions caller ∷ callers_of functions callers
   callers_pushed callers caller = ap (λ l. map (standing functions) l) (reverse-append callers (caller ∷ []))
 
-  leads_between : (done : List Effect) (first first' second second' : List Standing) (one two : Store) → first ≡ first' → second ≡ second' → Leads functions monoids done first' one second' two → Leads functions monoids done first one second two
+  leads_between : (done : List Effect) (first first' second second' : List Standing) (one two : Store) → first ≡ first' → second ≡ second' → Leads functions monoids done (configuration first' one) (configuration second' two) → Leads functions monoids done (configuration first one) (configuration second two)
   leads_between done first first' second second' one two e f l =
-      subst (λ s. Leads functions monoids done s one second two) (sym e) (subst (λ s. Leads functions monoids done first' one s two) (sym f) l)
+      subst (λ s. Leads functions monoids done (configuration s one) (configuration second two)) (sym e) (subst (λ s. Leads functions monoids done (configuration first' one) (configuration s two)) (sym f) l)
 
   -- ---- a line of the topmost function
 
@@ -162,7 +162,7 @@ module _ (functions : List Code) (monoids : List Monoid) where
           going_stack before going ∙ ap (λ t. t ∷ callers_of functions before.callers) (quiet_standing before.top code here quiet ∙ ap (λ l. record { end_line = code.end_line; rest = left_at code.end_line l; registers = before.top.registers }) (drop_at code.body before.top.place statement at))
 
       -- what the line does, and what is left then
-      pub line_makes : (asked place : ℕ) (registers : Registers) (store : Store) (done : List Effect) (after : ElisionState) → length done ≡ asked → (asked ≡ 0 → before.top.place < place) → Leads functions monoids done (record { end_line = code.end_line; rest = left_at code.end_line (statement ∷ drop (before.top.place + 1) code.body); registers = before.top.registers } ∷ callers_of functions before.callers) (store_of before) (record { end_line = code.end_line; rest = left_at code.end_line (drop place code.body); registers = registers } ∷ callers_of functions before.callers) store → after ≡ with_store (with_top before (moved before.top place registers)) store → Makes functions monoids asked before after
+      pub line_makes : (asked place : ℕ) (registers : Registers) (store : Store) (done : List Effect) (after : ElisionState) → length done ≡ asked → (asked ≡ 0 → before.top.place < place) → Leads functions monoids done (configuration (record { end_line = code.end_line; rest = left_at code.end_line (statement ∷ drop (before.top.place + 1) code.body); registers = before.top.registers } ∷ callers_of functions before.callers) (store_of before)) (configuration (record { end_line = code.end_line; rest = left_at code.end_line (drop place code.body); registers = registers } ∷ callers_of functions before.callers) store) → after ≡ with_store (with_top before (moved before.top place registers)) store → Makes functions monoids asked before after
       line_makes asked place registers store done after count further leads e =
           let last = with_store (with_top before (moved before.top place registers)) store in
           subst (λ t. Makes functions monoids asked before t) (sym e) (record {
@@ -176,11 +176,11 @@ module _ (functions : List Code) (monoids : List Monoid) where
       pub same_makes : (place : ℕ) (after : ElisionState) → before.top.place < place → left_of (drop place code.body) ≡ left_of (statement ∷ drop (before.top.place + 1) code.body) → after ≡ with_top before (moved before.top place before.top.registers) → Makes functions monoids 0 before after
       same_makes place after further same e =
           line_makes 0 place before.top.registers (store_of before) [] after refl (λ _. further)
-          (leads_between [] _ _ _ _ (store_of before) (store_of before) (ap (λ t. record { end_line = code.end_line; rest = and_then t (closing code.end_line); registers = before.top.registers } ∷ callers_of functions before.callers) (sym same)) refl (leads_nowhere functions monoids (record { end_line = code.end_line; rest = left_at code.end_line (drop place code.body); registers = before.top.registers } ∷ callers_of functions before.callers) (store_of before)))
+          (leads_between [] _ _ _ _ (store_of before) (store_of before) (ap (λ t. record { end_line = code.end_line; rest = and_then t (closing code.end_line); registers = before.top.registers } ∷ callers_of functions before.callers) (sym same)) refl (leads_nowhere functions monoids (configuration (record { end_line = code.end_line; rest = left_at code.end_line (drop place code.body); registers = before.top.registers } ∷ callers_of functions before.callers) (store_of before))))
           e
 
       -- a `pfor`, whose turns are left then
-      pub counts_makes : (turns : Turns) (after : ElisionState) → Leads functions monoids [] (record { end_line = code.end_line; rest = left_at code.end_line (statement ∷ drop (before.top.place + 1) code.body); registers = before.top.registers } ∷ callers_of functions before.callers) (store_of before) (record { end_line = code.end_line; rest = left_in code.end_line (Some turns) (drop (before.top.place + 1) code.body); registers = before.top.registers } ∷ callers_of functions before.callers) (store_of before) → after ≡ with_top before (turning (moved before.top (before.top.place + 1) before.top.registers) (Some turns)) → Makes functions monoids 0 before after
+      pub counts_makes : (turns : Turns) (after : ElisionState) → Leads functions monoids [] (configuration (record { end_line = code.end_line; rest = left_at code.end_line (statement ∷ drop (before.top.place + 1) code.body); registers = before.top.registers } ∷ callers_of functions before.callers) (store_of before)) (configuration (record { end_line = code.end_line; rest = left_in code.end_line (Some turns) (drop (before.top.place + 1) code.body); registers = before.top.registers } ∷ callers_of functions before.callers) (store_of before)) → after ≡ with_top before (turning (moved before.top (before.top.place + 1) before.top.registers) (Some turns)) → Makes functions monoids 0 before after
       counts_makes turns after leads e =
           let last = with_top before (turning (moved before.top (before.top.place + 1) before.top.registers) (Some turns)) in
           subst (λ t. Makes functions monoids 0 before t) (sym e) (record {
@@ -222,7 +222,7 @@ module _ (functions : List Code) (monoids : List Monoid) where
       going_stack (with_begun before caller function argument) going ∙ ap (λ t. t ∷ callers_of functions (before.callers ++ caller ∷ [])) (begun_standing function argument callee h) ∙ ap (λ l. record { end_line = callee.end_line; rest = script callee; registers = first_registers argument } ∷ l) (callers_pushed before.callers caller)
 
   -- a spawn or a call
-  pub enter_makes : (before : ElisionState) (code : Code) (statement : Statement) (function argument : ℕ) (callee : Code) (did : Effect) (after : ElisionState) → slice_get functions before.top.function ≡ Some code → before.over ≡ false → before.top.turns ≡ None → slice_get code.body before.top.place ≡ Some statement → slice_get functions function ≡ Some callee → Leads functions monoids (did ∷ []) (record { end_line = code.end_line; rest = left_at code.end_line (statement ∷ drop (before.top.place + 1) code.body); registers = before.top.registers } ∷ callers_of functions before.callers) (store_of before) (record { end_line = callee.end_line; rest = script callee; registers = first_registers argument } ∷ record { end_line = code.end_line; rest = left_at code.end_line (drop (before.top.place + 1) code.body); registers = before.top.registers } ∷ callers_of functions before.callers) (store_of before) → after ≡ with_begun before (moved before.top (before.top.place + 1) before.top.registers) function argument → Makes functions monoids 1 before after
+  pub enter_makes : (before : ElisionState) (code : Code) (statement : Statement) (function argument : ℕ) (callee : Code) (did : Effect) (after : ElisionState) → slice_get functions before.top.function ≡ Some code → before.over ≡ false → before.top.turns ≡ None → slice_get code.body before.top.place ≡ Some statement → slice_get functions function ≡ Some callee → Leads functions monoids (did ∷ []) (configuration (record { end_line = code.end_line; rest = left_at code.end_line (statement ∷ drop (before.top.place + 1) code.body); registers = before.top.registers } ∷ callers_of functions before.callers) (store_of before)) (configuration (record { end_line = callee.end_line; rest = script callee; registers = first_registers argument } ∷ record { end_line = code.end_line; rest = left_at code.end_line (drop (before.top.place + 1) code.body); registers = before.top.registers } ∷ callers_of functions before.callers) (store_of before)) → after ≡ with_begun before (moved before.top (before.top.place + 1) before.top.registers) function argument → Makes functions monoids 1 before after
   enter_makes before code statement function argument callee did after here going quiet at h leads e =
       let caller = moved before.top (before.top.place + 1) before.top.registers in
       subst (λ t. Makes functions monoids 1 before t) (sym e) (record {
@@ -317,7 +317,7 @@ module _ (functions : List Code) (monoids : List Monoid) where
       record {
         done = effect Act.Sync code.end_line ∷ effect Act.Return code.end_line ∷ [];
         count = refl;
-        leads = subst (λ s. Leads functions monoids (effect Act.Sync code.end_line ∷ effect Act.Return code.end_line ∷ []) (stack_of functions before) (store_of before) (stack_of functions after) s) store
+        leads = subst (λ s. Leads functions monoids (effect Act.Sync code.end_line ∷ effect Act.Return code.end_line ∷ []) (configuration_of functions before) (configuration (stack_of functions after) s)) store
             (leads_between _ _ _ _ _ (store_of before) (store_of before)
             (going_stack before going ∙ ap (λ t. t ∷ callers_of functions before.callers) (quiet_standing before.top code here quiet ∙ ap (λ s. record { end_line = code.end_line; rest = left_at code.end_line s; registers = before.top.registers }) (drop_all before.top.place code.body ends)))
             (left_stack before after after.over refl l.stack)
@@ -376,22 +376,22 @@ module _ (functions : List Code) (monoids : List Monoid) where
   opening_stands cells state o = subst (λ s. Stands functions monoids cells s) (sym o.is) (opening_placed o.main cells (main_below functions o.main o.is_main))
 
   -- and leads on from its begin
-  pub opening_leads : (cells : ℕ) (state : ElisionState) → IsOpening functions monoids cells state → (main : Code) × HasMain functions main × Leads functions monoids [] (main_stack main) (first_store monoids cells) (stack_of functions state) (store_of state)
+  pub opening_leads : (cells : ℕ) (state : ElisionState) → IsOpening functions monoids cells state → (main : Code) × HasMain functions main × Leads functions monoids [] (configuration (main_stack main) (first_store monoids cells)) (configuration_of functions state)
   opening_leads cells state o =
       let f = found functions o.main (main_below functions o.main o.is_main) in
       let first = first_state o.main monoids cells in
       let e : stack_of functions first ≡ main_stack f.0 = ap (λ t. t ∷ []) (begun_standing o.main 0 f.0 f.1) in
-      (f.0, (o.main, o.is_main, f.1), subst (λ s. Leads functions monoids [] (main_stack f.0) (first_store monoids cells) (stack_of functions s) (store_of s)) (sym o.is) (leads_between [] _ _ _ _ (first_store monoids cells) (first_store monoids cells) refl e (leads_nowhere functions monoids (main_stack f.0) (first_store monoids cells))))
+      (f.0, (o.main, o.is_main, f.1), subst (λ s. Leads functions monoids [] (configuration (main_stack f.0) (first_store monoids cells)) (configuration_of functions s)) (sym o.is) (leads_between [] _ _ _ _ (first_store monoids cells) (first_store monoids cells) refl e (leads_nowhere functions monoids (configuration (main_stack f.0) (first_store monoids cells)))))
 
   -- some requests more
-  pub more_leads : (cells asked requests : ℕ) (main : Code) (done : List Effect) (before after : ElisionState) → length done ≡ requests → Leads functions monoids done (main_stack main) (first_store monoids cells) (stack_of functions before) (store_of before) → Makes functions monoids asked before after → (more : List Effect) × (length more ≡ requests + asked) × Leads functions monoids more (main_stack main) (first_store monoids cells) (stack_of functions after) (store_of after)
+  pub more_leads : (cells asked requests : ℕ) (main : Code) (done : List Effect) (before after : ElisionState) → length done ≡ requests → Leads functions monoids done (configuration (main_stack main) (first_store monoids cells)) (configuration_of functions before) → Makes functions monoids asked before after → (more : List Effect) × (length more ≡ requests + asked) × Leads functions monoids more (configuration (main_stack main) (first_store monoids cells)) (configuration_of functions after)
   more_leads cells asked requests main done before after count leads m =
-      (done ++ m.done, (let c = length-append done m.done in let d = m.count in omega (arith, c, d, count)), leads_on functions monoids done m.done _ _ _ _ _ _ leads m.leads)
+      (done ++ m.done, (let c = length-append done m.done in let d = m.count in omega (arith, c, d, count)), leads_on functions monoids done m.done _ _ _ leads m.leads)
 
   -- an evaluator that is over has found the program's memory
-  pub over_elides : (cells requests : ℕ) (main : Code) (done : List Effect) (state : ElisionState) → HasMain functions main → state.over ≡ true → length done ≡ requests → Leads functions monoids done (main_stack main) (first_store monoids cells) (stack_of functions state) (store_of state) → Elides functions monoids cells state.memory requests
+  pub over_elides : (cells requests : ℕ) (main : Code) (done : List Effect) (state : ElisionState) → HasMain functions main → state.over ≡ true → length done ≡ requests → Leads functions monoids done (configuration (main_stack main) (first_store monoids cells)) (configuration_of functions state) → Elides functions monoids cells state.memory requests
   over_elides cells requests main done state is_main over count leads =
-      let l = subst (λ s. Leads functions monoids done (main_stack main) (first_store monoids cells) s (store_of state)) (ap (λ b. stack_in functions b state.top state.callers) over) leads in
+      let l = subst (λ s. Leads functions monoids done (configuration (main_stack main) (first_store monoids cells)) (configuration s (store_of state))) (ap (λ b. stack_in functions b state.top state.callers) over) leads in
       record {
         main = main;
         is_main = is_main;
@@ -405,7 +405,7 @@ module _ (functions : List Code) (monoids : List Monoid) where
       }
 
   -- where so many requests lead on, the program needs as many
-  pub leads_needs : (cells limit : ℕ) (main : Code) (done : List Effect) (stack : List Standing) (store : Store) → HasMain functions main → limit < length done → Leads functions monoids done (main_stack main) (first_store monoids cells) stack store → NeedsMore functions monoids cells limit
+  pub leads_needs : (cells limit : ℕ) (main : Code) (done : List Effect) (stack : List Standing) (store : Store) → HasMain functions main → limit < length done → Leads functions monoids done (configuration (main_stack main) (first_store monoids cells)) (configuration stack store) → NeedsMore functions monoids cells limit
   leads_needs cells limit main done stack store is_main more leads =
       record {
         main = main;

@@ -20,10 +20,17 @@ StackEvaluates functions monoids (top ∷ callers) store effects last =
     Evaluates functions monoids top.end_line top.rest top.registers store inner between ×
     StackEvaluates functions monoids callers between outer last × (effects ≡ inner ++ outer)
 
--- the first stack has these effects and goes on as the second
-pub record Leads (functions : List Code) (monoids : List Monoid) (done : List Effect)
-    (before : List Standing) (store : Store) (after : List Standing) (changed : Store) : Type 0 where
-  pub on : (effects : List Effect) (last : Store) → StackEvaluates functions monoids before store effects last →
-      (left : List Effect) × (effects ≡ done ++ left) × StackEvaluates functions monoids after changed left last
-  pub back : (left : List Effect) (last : Store) → StackEvaluates functions monoids after changed left last →
-      StackEvaluates functions monoids before store (done ++ left) last
+-- a stack of functions and what the cells and the reducers hold
+pub record Configuration : Type 0 where
+  pub stack : List Standing
+  pub store : Store
+
+abbrev pub configuration : List Standing → Store → Configuration
+configuration stack store = record { stack = stack; store = store }
+
+-- the first configuration has these effects and goes on as the second
+pub record Leads (functions : List Code) (monoids : List Monoid) (done : List Effect) (before after : Configuration) : Type 0 where
+  pub on : (effects : List Effect) (last : Store) → StackEvaluates functions monoids before.stack before.store effects last →
+      (left : List Effect) × (effects ≡ done ++ left) × StackEvaluates functions monoids after.stack after.store left last
+  pub back : (left : List Effect) (last : Store) → StackEvaluates functions monoids after.stack after.store left last →
+      StackEvaluates functions monoids before.stack before.store (done ++ left) last

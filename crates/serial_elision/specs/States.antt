@@ -17,7 +17,7 @@ use Rattle.serial_elision.specs.declared.elision.Elision.{Elision}
 use Rattle.model_programs.specs.Values.{Registers, first_registers}
 use Rattle.model_programs.specs.Scripts.{closing, numbers}
 use Rattle.model_programs.specs.Evaluation.{Effect, Store}
-use Rattle.serial_elision.specs.Evaluation.{Standing, Leads}
+use Rattle.serial_elision.specs.Evaluation.{Standing, Configuration, Leads}
 
 -- what an evaluator holds
 pub record ElisionState : Type 0 where
@@ -150,6 +150,10 @@ stack_in functions false top callers = standing functions top ∷ callers_of fun
 abbrev pub stack_of : List Code → ElisionState → List Standing
 stack_of functions state = stack_in functions state.over state.top state.callers
 
+-- these functions and its store
+abbrev pub configuration_of : List Code → ElisionState → Configuration
+configuration_of functions state = record { stack = stack_of functions state; store = store_of state }
+
 abbrev pub are_turns : List Code → Option Turns → Type 0
 are_turns functions None = Unit {0}
 are_turns functions (Some turns) = (turns.function < length functions) × (turns.number + turns.left < 2 ^ 64)
@@ -184,7 +188,7 @@ pub record IsGoing (functions : List Code) (monoids : List Monoid) (cells : ℕ)
 pub record Makes (functions : List Code) (monoids : List Monoid) (asked : ℕ) (before after : ElisionState) : Type 0 where
   pub done : List Effect
   pub count : length done ≡ asked
-  pub leads : Leads functions monoids done (stack_of functions before) (store_of before) (stack_of functions after) (store_of after)
+  pub leads : Leads functions monoids done (configuration_of functions before) (configuration_of functions after)
   pub further : asked ≡ 0 → before.top.place < after.top.place
 
 abbrev pub is_left : Bool → ElisionState → ElisionState → Type 0

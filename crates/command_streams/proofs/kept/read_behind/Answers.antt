@@ -1,6 +1,7 @@
 use Rattle.std.proofs.Common.{length, ap, arith, length-drop, refl}
 use Rattle.std.proofs.lemmas.Result.{err_from_is_err_and}
 use Rattle.command_streams.specs.Watched.{held, calls_of}
+use Rattle.command_streams.specs.PlainTexts.{progress}
 use Rattle.command_streams.proofs.Bytes.{uncalled, called_within}
 use Rattle.command_streams.proofs.KeptTexts.{found_behind, head_stops}
 use Rattle.command_streams.proofs.kept.read_behind.Goals as goal
@@ -27,9 +28,10 @@ pub returns-in_ok-is_ended-in-Ok-Some-clause-found : goal.returns-in_ok-is_ended
 returns-in_ok-is_ended-in-Ok-Some-clause-found g c =
     let begun = rw c.in-Ok-Some.field-0-is at c.in-Ok-Some.ensures in
     found_behind c.args.head.now c.in-Ok-Some.end c.in-Ok-Some.begun begun.0 begun.1
-    (g.R.Read.remaining (held c.args.input.now)) (g.R.Read.remaining (held c.read_plain.new.input)) (calls_of c.args.input.now) (calls_of c.read_plain.new.input)
-    c.read_plain.new.begun c.in_ok-waiting-in-Ok-Some.waiting.items c.read_plain.new.waiting.items _ _ c.in_ok-waiting-in-Ok-Some.ensures
-    c.in_ok-is_ended-in-Ok-Some.ensures.read c.in_ok-is_ended-in-Ok-Some.ensures.calls refl c.request_count-count.ensures c.into_trace.ensures refl refl
+    (g.R.Read.remaining (held c.args.input.now)) c.in_ok-waiting-in-Ok-Some.waiting.items
+    (progress c.read_plain.new.begun c.in_ok-is_ended-in-Ok-Some.ensures.read.0 c.read_plain.new.waiting.items (g.R.Read.remaining (held c.read_plain.new.input)))
+    (calls_of c.args.input.now) (calls_of c.read_plain.new.input) _ _ c.in_ok-waiting-in-Ok-Some.ensures
+    c.in_ok-is_ended-in-Ok-Some.ensures.read.1 c.in_ok-is_ended-in-Ok-Some.ensures.calls refl c.request_count-count.ensures c.into_trace.ensures refl refl
 
 pub returns-in_ok-is_ended-in-Ok-Some-clause-calls : goal.returns-in_ok-is_ended-in-Ok-Some-clause-calls
 returns-in_ok-is_ended-in-Ok-Some-clause-calls g c =

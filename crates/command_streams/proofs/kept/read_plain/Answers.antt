@@ -1,13 +1,14 @@
 use Rattle.std.proofs.Common.{◌+◌, length, ap, rules, arith, length-append}
 use Rattle.std.proofs.lemmas.Result.{err_from_is_err_and}
 use Rattle.command_streams.specs.Watched.{held, calls_of}
+use Rattle.command_streams.specs.PlainTexts.{progress}
 use Rattle.command_streams.proofs.Bytes.{uncalled, called_both, called_within}
 use Rattle.command_streams.proofs.KeptTexts.{plain_first, plain_read, plain_taken, plain_stop}
 use Rattle.command_streams.proofs.kept.read_plain.Goals as goal
 
 pub loop-waiting-init : goal.loop-waiting-init
 loop-waiting-init g c = record {
-  reads = plain_first c.args.begun.now c.args.done c.args.waiting.now.items (g.R.Read.remaining (held c.args.input.now));
+  reads = plain_first (progress c.args.begun.now c.args.done c.args.waiting.now.items (g.R.Read.remaining (held c.args.input.now)));
   short = c.requires.short;
   fresh = c.requires.fresh;
   grown = omega arith;
@@ -20,8 +21,9 @@ returns-in_err-more-clause-fault g c =
     let before = g.R.Read.remaining (held c.args.input.now) in
     let now = g.R.Read.remaining (held c.loop-waiting.input) in
     rw (gone.1, gone.2)
-    (plain_stop c.args.begun.now c.args.done c.args.waiting.now.items before now c.loop-waiting.count c.loop-waiting.begun c.loop-waiting.waiting.items
-    c.loop-waiting.invariant.reads (g.R.Read.remaining (held c.read_until.new.input)) _ c.in_err-more.ensures.fault)
+    (plain_stop (progress c.args.begun.now c.args.done c.args.waiting.now.items before)
+    (progress c.loop-waiting.begun c.loop-waiting.count c.loop-waiting.waiting.items now) c.loop-waiting.invariant.reads
+    (g.R.Read.remaining (held c.read_until.new.input)) _ c.in_err-more.ensures.fault)
 
 pub returns-in_err-more-clause-calls : goal.returns-in_err-more-clause-calls
 returns-in_err-more-clause-calls g c =
@@ -37,16 +39,18 @@ returns-then-not-more-clause-read g c =
     let next = g.R.Read.remaining (held c.read_until.new.input) in
     let pieces = c.in_ok-more.ensures.taken in
     let on =
-    plain_read c.args.begun.now c.args.done c.args.waiting.now.items before now c.loop-waiting.count c.loop-waiting.begun c.loop-waiting.waiting.items
-    inv.reads next _ c.read_until.new.text.items _ pieces in
-    record {
-      count = c.loop-waiting.count + c.take_front-count.result;
-      reads = plain_taken c.args.begun.now c.args.done c.args.waiting.now.items before next c.loop-waiting.count c.loop-waiting.begun c.read_until.new.text.items
-          on c.take_front-count.result c.take_front-count.new.begun c.take_front-count.new.waiting.items c.take_front-count.ensures.taken c.take_front-count.ensures.count;
-      short = omega (arith, pieces.short, c.take_front-count.ensures.count);
-      end = λ _. pieces.end (search rules);
-      called_few = λ e. cc;
-    }
+    plain_read (progress c.args.begun.now c.args.done c.args.waiting.now.items before)
+    (progress c.loop-waiting.begun c.loop-waiting.count c.loop-waiting.waiting.items now) inv.reads next _ c.read_until.new.text.items _ pieces in (
+      c.loop-waiting.count + c.take_front-count.result,
+      record {
+        reads = plain_taken (progress c.args.begun.now c.args.done c.args.waiting.now.items before)
+            (progress c.loop-waiting.begun c.loop-waiting.count c.read_until.new.text.items next) on c.take_front-count.result
+            c.take_front-count.new.begun c.take_front-count.new.waiting.items c.take_front-count.ensures.taken c.take_front-count.ensures.count;
+        short = omega (arith, pieces.short, c.take_front-count.ensures.count);
+        end = λ _. pieces.end (search rules);
+        called_few = λ e. cc;
+      },
+    )
 
 pub returns-then-not-more-clause-calls : goal.returns-then-not-more-clause-calls
 returns-then-not-more-clause-calls g c =
@@ -65,11 +69,12 @@ loop-waiting-preserved g c =
     let long = ap length pieces.added in
     let longer = length-append c.loop-waiting.waiting.items pieces.pieces in
     let on =
-    plain_read c.args.begun.now c.args.done c.args.waiting.now.items before now c.loop-waiting.count c.loop-waiting.begun c.loop-waiting.waiting.items
-    inv.reads next _ c.read_until.new.text.items _ pieces in
+    plain_read (progress c.args.begun.now c.args.done c.args.waiting.now.items before)
+    (progress c.loop-waiting.begun c.loop-waiting.count c.loop-waiting.waiting.items now) inv.reads next _ c.read_until.new.text.items _ pieces in
     record {
-      reads = plain_taken c.args.begun.now c.args.done c.args.waiting.now.items before next c.loop-waiting.count c.loop-waiting.begun c.read_until.new.text.items
-          on c.take_front-count.result c.take_front-count.new.begun c.take_front-count.new.waiting.items c.take_front-count.ensures.taken left;
+      reads = plain_taken (progress c.args.begun.now c.args.done c.args.waiting.now.items before)
+          (progress c.loop-waiting.begun c.loop-waiting.count c.read_until.new.text.items next) on c.take_front-count.result
+          c.take_front-count.new.begun c.take_front-count.new.waiting.items c.take_front-count.ensures.taken left;
       short = omega (arith, pieces.short, left);
       fresh = c.in_ok-more.ensures.fresh;
       grown = omega (arith, inv.grown, long, longer, left);

@@ -3,7 +3,7 @@ use Rattle.std.proofs.lemmas.Result.{err_from_is_err_and}
 use Rattle.command_streams.specs.Watched.{held, calls_of}
 use Rattle.command_streams.specs.declared.fault.CliFault.{CliFault}
 use Rattle.command_streams.specs.declared.fault.CliFault.TheVariants.{Read}
-use Rattle.command_streams.specs.Streams.{TakesPieces}
+use Rattle.command_streams.specs.Streams.{buffered, TakesPieces}
 use Rattle.command_streams.proofs.Failing.{step_failed}
 use Rattle.command_streams.proofs.Bytes.{uncalled, called_within, pieces_more, pieces_stop, pieces_reached, pieces_none, pieces_on, pieces_called, piece_called}
 use Rattle.command_streams.proofs.streams.read_until.Goals as goal
@@ -59,7 +59,7 @@ returns-then-not-branch-clause-taken g c =
     let now = g.R.Read.remaining (held c.loop-input.input) in
     let behind = g.R.Read.remaining (held c.read_piece.new.input) in
     let none = c.if-not-branch.true in
-    subst (λ (more : Bool). TakesPieces before behind c.args.done c.args.size c.args.text.now.items c.read_piece.new.text.items more) none
+    subst (λ (more : Bool). TakesPieces c.args.done c.args.size (buffered before c.args.text.now.items) (buffered behind c.read_piece.new.text.items) more) none
     (pieces_more before now behind c.args.done c.args.text.now.items c.loop-input.text.items c.args.size c.read_piece.new.text.items c.in_ok-read_piece.field-0
     c.loop-input.invariant.taken c.in_ok-read_piece.ensures.taken (λ some. cc))
 

@@ -13,7 +13,7 @@ use Rattle.model_histories.specs.declared.answer.Answer.TheVariants.{Split, Same
 use Rattle.race_gate.specs.Accesses.{act_of_cell}
 use Rattle.model_races.specs.Accesses.{is_granted}
 use Rattle.model_races.specs.Memory.{effect_on_cell}
-use Rattle.race_gate.specs.Steps.{IsJudgedBy, after}
+use Rattle.race_gate.specs.Steps.{numbered_access, IsJudgedBy, after}
 use Rattle.model_races.specs.Verdicts.{IsRefused, IfRefused}
 use Rattle.race_gate.proofs.step.judge_access.Goals as goal
 
@@ -65,7 +65,7 @@ no_race Race tells race = let some = tells.1 race in absurd (cc)
 pub returns-in-Some-clause-judged : goal.returns-in-Some-clause-judged
 returns-in-Some-clause-judged g c history accesses follows remembers =
     let found = c.in-Some.ensures.witness history accesses follows remembers in
-    subst (λ (access : CellAccess). IsJudgedBy history accesses c.args.strand access c.args.number (Refused c.rule.result c.in-Some.witness) c.args.shadow.now)
+    subst (λ (access : CellAccess). IsJudgedBy history accesses (numbered_access c.args.number c.args.strand access) (Refused c.rule.result c.in-Some.witness) c.args.shadow.now)
     c.access_of-kind.ensures (record {
       refused = ((λ t. (access_of_witness c.access_of-kind.result.location c.in-Some.witness, found.races)), (λ race. tt));
       witness = (found.races, c.rule.ensures.value);
@@ -82,7 +82,7 @@ pub returns-clause-judged : goal.returns-clause-judged
 returns-clause-judged g c history accesses follows remembers =
     let exact = c.in_default.ensures.exact history accesses follows remembers in
     let not = not_refused c.perform.result c.perform.ensures.granted in
-    subst (λ (access : CellAccess). IsJudgedBy history accesses c.args.strand access c.args.number c.perform.result c.add.new.self) c.access_of-kind.ensures (record {
+    subst (λ (access : CellAccess). IsJudgedBy history accesses (numbered_access c.args.number c.args.strand access) c.perform.result c.add.new.self) c.access_of-kind.ensures (record {
       refused = ((λ t. absurd (not t)), (λ race. absurd (no_race _ exact race)));
       witness = names_nothing c.perform.result _ not;
       remembers = rw c.perform.ensures.granted (c.add.ensures.added history accesses follows remembers);

@@ -1,5 +1,6 @@
 use Rattle.std.proofs.lemmas.Result.{err_from_is_err_and}
 use Rattle.race_gate.specs.Accesses.{act_of_reducer, reducer_of}
+use Rattle.race_gate.specs.Books.{answered_act}
 use Rattle.race_gate.proofs.Controlled.{running-still, known-still, still-by, answers-still}
 use Rattle.race_gate.proofs.step.judge_reducer.Goals as goal
 
@@ -14,4 +15,4 @@ returns-in_err-reserve_for-clause-still g c =
     rw (err_from_is_err_and c.from_residual.result c.from_residual.ensures.1).1 (still-by _ _ _ c.in-Some.is c.in_err-reserve_for.ensures.still)
 
 pub returns-clause-ok : goal.returns-clause-ok
-returns-clause-ok g c = answers-still _ _ _ _ c.args.number c.args.strand (act_of_reducer c.args.act) c.answer.result c.in-Some.is c.in_ok-reserve_for.ensures.still c.answer.ensures
+returns-clause-ok g c = answers-still _ _ _ _ (answered_act c.args.number c.args.strand (act_of_reducer c.args.act) c.answer.result) c.in-Some.is c.in_ok-reserve_for.ensures.still c.answer.ensures

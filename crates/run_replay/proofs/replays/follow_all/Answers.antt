@@ -19,7 +19,7 @@ loop-at-init g c = (
     c.requires.opens.0,
     c.requires.opens.1,
     opens_plays c.args.program.now.functions (shape_in c.args.program.now) (opening (shape_in c.args.program.now) most_entries) c.requires.opens.0
-        c.args.cast.now.places.items c.requires.opens.2,
+        c.args.table.now.places.items c.requires.opens.2,
   ),
   refl,
 )
@@ -40,7 +40,7 @@ returns-in-Err-Strange-clause-strange g c = λ number e.
     let played = so_many items c.loop-at.at kept.0.history low kept.2 in
     let place : number ≡ suc (length kept.0.history) = omega (arith, is, played) in
     let here = get_or_from_slice_get items c.loop-at.at c.get.result c.get.result c.get.ensures in
-    strange_at functions shape kept.0 kept.1.0 c.loop-at.cast.places.items kept.1.2 items c.loop-at.at kept.2 c.get.result number low place
+    strange_at functions shape kept.0 kept.1.0 c.loop-at.table.places.items kept.1.2 items c.loop-at.at kept.2 c.get.result number low place
     (subst (λ (entry : Entry). IsMisfit functions shape entry kept.0) (sym here) (c.in-Err-Strange.ensures.strange kept.0 kept.1 (ap Err c.in-Err-Strange.field-0-is)))
 
 pub loop-at-preserved : goal.loop-at-preserved

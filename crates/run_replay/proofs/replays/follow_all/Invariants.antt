@@ -6,5 +6,5 @@ use Rattle.run_replay.proofs.replays.follow_all.Given as goal
 
 abbrev pub invariant-loop-at : goal.invariant-loop-at
 invariant-loop-at g l =
-    (state : GateState) × PlaysIn l.program.functions (shape_in l.program) state l.cast.slots.items l.cast.homes.items l.cast.places.items ×
+    (state : GateState) × PlaysIn l.program.functions (shape_in l.program) state l.table.slots.items l.table.homes.items l.table.places.items ×
     (state.history ≡ reverse (take l.at l.entries.items))

@@ -6,7 +6,7 @@ use Rattle.run_replay.proofs.replays.judge_and_play.Goals as goal
 
 pub returns-in_err-confirm-clause-strange : goal.returns-in_err-confirm-clause-strange
 returns-in_err-confirm-clause-strange g c =
-    λ state fits plays e. odd_misfit c.args.program.now.functions (shape_in c.args.program.now) state plays.0 c.args.cast.now.places.items
+    λ state fits plays e. odd_misfit c.args.program.now.functions (shape_in c.args.program.now) state plays.0 c.args.table.now.places.items
     plays.2 c.args.entry
     (search (rules, c.confirm.ensures.strange state fits, c.in_err-confirm.ensures.strange state fits, c.in_err-confirm.was, c.in_err-confirm.is, c.from_residual.ensures, e))
 

@@ -15,7 +15,7 @@ loop-entry-init g c = record {
       c.requires.opens.0,
       c.requires.opens.1,
       opens_plays c.args.program.now.functions (shape_in c.args.program.now) (opening (shape_in c.args.program.now) most_entries) c.requires.opens.0
-          c.args.cast.now.places.items c.requires.opens.2,
+          c.args.table.now.places.items c.requires.opens.2,
     ),
     refl,
   );
@@ -36,7 +36,7 @@ returns-in-Err-Strange-clause-strange g c = λ number e.
     let kept = c.loop-entry.invariant.plays in
     let is : c.next_number-number.result ≡ number = cc in
     let place : number ≡ suc (length kept.0.history) = omega (arith, is, c.next_number-number.ensures, kept.1.counted) in
-    strange_at c.args.program.now.functions (shape_in c.args.program.now) kept.0 kept.2.0 c.loop-entry.cast.places.items
+    strange_at c.args.program.now.functions (shape_in c.args.program.now) kept.0 kept.2.0 c.loop-entry.table.places.items
     kept.2.2 c.args.entries.now c.loop-entry.entry-index kept.3 _ number c.loop-entry-test.true place
     (c.in-Err-Strange.ensures.strange kept.0 kept.1 kept.2 (ap Err c.in-Err-Strange.field-0-is))
 
@@ -56,14 +56,14 @@ loop-entry-preserved g c =
 pub returns-then-is_finished-clause-finished : goal.returns-then-is_finished-clause-finished
 returns-then-is_finished-clause-finished g c =
     let kept = c.loop-entry.invariant.plays in
-    finished_all c.args.program.now.functions (shape_in c.args.program.now) kept.0 kept.2.0 c.loop-entry.cast.places.items
+    finished_all c.args.program.now.functions (shape_in c.args.program.now) kept.0 kept.2.0 c.loop-entry.table.places.items
     kept.2.2 c.args.entries.now c.loop-entry.entry-index kept.3 (omega (arith, c.loop-entry-test.false, c.loop-entry.auto.entry-index-end))
     (kept.1.finished.0 (sym c.is_finished.ensures ∙ c.if-is_finished.true))
 
 pub returns-else-is_finished-clause-unfinished : goal.returns-else-is_finished-clause-unfinished
 returns-else-is_finished-clause-unfinished g c = λ e.
     let kept = c.loop-entry.invariant.plays in
-    unfinished_all c.args.program.now.functions (shape_in c.args.program.now) kept.0 kept.2.0 c.loop-entry.cast.places.items
+    unfinished_all c.args.program.now.functions (shape_in c.args.program.now) kept.0 kept.2.0 c.loop-entry.table.places.items
     kept.2.2 c.args.entries.now c.loop-entry.entry-index kept.3 (omega (arith, c.loop-entry-test.false, c.loop-entry.auto.entry-index-end))
     (λ f. let t = c.is_finished.ensures ∙ kept.1.finished.1 f in let n = c.if-is_finished.false in cc)
 

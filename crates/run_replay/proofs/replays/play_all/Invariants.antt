@@ -7,6 +7,6 @@ use Rattle.run_replay.proofs.replays.play_all.Given as goal
 
 abbrev pub invariant-loop-entry : goal.invariant-loop-entry
 invariant-loop-entry g l = record {
-  plays : (state : GateState) × IsCoreOf l.core state × PlaysIn l.program.functions (shape_in l.program) state l.cast.slots.items l.cast.homes.items l.cast.places.items ×
+  plays : (state : GateState) × IsCoreOf l.core state × PlaysIn l.program.functions (shape_in l.program) state l.table.slots.items l.table.homes.items l.table.places.items ×
       (state.history ≡ reverse (take l.entry-index l.entries));
 }

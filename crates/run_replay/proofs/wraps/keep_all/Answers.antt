@@ -20,7 +20,7 @@ loop-at-init g c =
     let shape = shape_in c.args.program.now in (
       opening shape most_entries,
       (
-        (c.requires.opens.0, c.requires.opens.1, opens_plays functions shape (opening shape most_entries) c.requires.opens.0 c.args.cast.now.places.items c.requires.opens.2),
+        (c.requires.opens.0, c.requires.opens.1, opens_plays functions shape (opening shape most_entries) c.requires.opens.0 c.args.table.now.places.items c.requires.opens.2),
         first_wraps functions shape (index_at c.args.wraps.now) c.requires.none,
       ),
       refl,
@@ -38,7 +38,7 @@ loop-at-preserved g c =
     let items = c.args.entries.now.items in
     let kept = c.loop-at.invariant in
     let low : c.loop-at.at < length items = search rules in
-    let now = c.keep_and_play.new.cast in
+    let now = c.keep_and_play.new.table in
     let here = get_or_from_slice_get items c.loop-at.at c.get.result c.get.result c.get.ensures in
     one_further shape items c.loop-at.at kept.0 c.get.result c.requires.judged c.requires.within low kept.1.0.2.shape_is kept.1.0.2.limit_is kept.2
     (λ state. PlaysIn functions shape state now.slots.items now.homes.items now.places.items × AreWraps functions shape state.history c.keep_and_play.new.wraps)

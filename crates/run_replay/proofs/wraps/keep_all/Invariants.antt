@@ -8,6 +8,6 @@ use Rattle.run_replay.proofs.wraps.keep_all.Given as goal
 abbrev pub invariant-loop-at : goal.invariant-loop-at
 invariant-loop-at g l =
     (state : GateState)
-    × (PlaysIn l.program.functions (shape_in l.program) state l.cast.slots.items l.cast.homes.items l.cast.places.items
+    × (PlaysIn l.program.functions (shape_in l.program) state l.table.slots.items l.table.homes.items l.table.places.items
     × AreWraps l.program.functions (shape_in l.program) state.history l.wraps)
     × (state.history ≡ reverse (take l.at l.entries.items))

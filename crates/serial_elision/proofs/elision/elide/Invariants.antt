@@ -2,9 +2,9 @@ use Rattle.std.proofs.Common.{◌≡◌, ◌≤◌, ◌-◌, ◌+◌, ◌*◌, L
 use Rattle.text_words.specs.Declarations.{cells_of}
 use Rattle.model_bodies.specs.Codes.{Code}
 use Rattle.model_programs.specs.Evaluation.{Effect}
-use Rattle.serial_elision.specs.Evaluation.{Leads}
+use Rattle.serial_elision.specs.Evaluation.{configuration, Leads}
 use Rattle.model_programs.specs.Elisions.{first_store, HasMain}
-use Rattle.serial_elision.specs.States.{Stands, monoids_in, state_of, stack_of, store_of, top_of}
+use Rattle.serial_elision.specs.States.{Stands, monoids_in, state_of, configuration_of, top_of}
 use Rattle.serial_elision.proofs.Elisions.{main_stack}
 use Rattle.serial_elision.proofs.elision.elide.Given as goal
 
@@ -17,7 +17,9 @@ invariant-loop-elision g l = record {
   is_main : HasMain l.program.functions main;
   done : List Effect;
   count : length done ≡ l.requests;
-  leads : Leads l.program.functions (monoids_in l.program) done (main_stack main) (first_store (monoids_in l.program) (cells_of l.program.mems)) (stack_of l.program.functions (state_of l.elision)) (store_of (state_of l.elision));
+  leads : Leads l.program.functions (monoids_in l.program) done
+      (configuration (main_stack main) (first_store (monoids_in l.program) (cells_of l.program.mems)))
+      (configuration_of l.program.functions (state_of l.elision));
 }
 
 -- a request uses up one of those that are left, and between requests the topmost function comes further

@@ -1,9 +1,11 @@
 use Rattle.command_streams.specs.ElisionText.{requests_line}
 use Rattle.command_streams.specs.Watched.{held, has_failed}
+use Rattle.command_streams.specs.Tellings.{telling}
 use Rattle.command_streams.proofs.Buffering.{tells_added}
 use Rattle.command_streams.proofs.line_buffer.LineBuffer.tell_requests.Goals as goal
 
 pub returns : goal.returns
 returns g c =
-    tells_added (g.W.Write.contents (held c.args.output.now)) (g.W.Write.contents (held c.make_room.new.output)) (has_failed c.args.output.now)
-    (has_failed c.make_room.new.output) c.args.self.now.text c.make_room.new.self.text _ (requests_line c.args.requests) c.make_room.ensures.told c.add_requests.ensures
+    tells_added (telling (g.W.Write.contents (held c.args.output.now)) (has_failed c.args.output.now) c.args.self.now.text)
+    (telling (g.W.Write.contents (held c.make_room.new.output)) (has_failed c.make_room.new.output) c.make_room.new.self.text) _ (requests_line c.args.requests)
+    c.make_room.ensures.told c.add_requests.ensures

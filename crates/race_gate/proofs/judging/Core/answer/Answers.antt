@@ -7,16 +7,16 @@ pub invariant_of-self : goal.invariant_of-self
 invariant_of-self g c =
     let fits = subst (λ core. IsCoreOf core c.requires.0) (sym c.self.view_is) c.requires.1 in
     let stays = c.in_err-answer.ensures _ (is-ready _ _ fits c.args.request _ _ c.requires.2 c.as_mut_slice.ensures.value refl) in
-    (c.requires.0, fits-still _ _ fits _ _ _ _ _ c.self.inside.memory.ok.0 (stays.1 ∙ c.as_mut_slice.ensures.value) stays.2)
+    (c.requires.0, fits-still _ _ fits _ _ _ c.self.inside.memory.ok.0 (stays.1 ∙ c.as_mut_slice.ensures.value) stays.2)
 
 pub invariant_of-self-2 : goal.invariant_of-self-2
 invariant_of-self-2 g c =
     let fits = subst (λ core. IsCoreOf core c.requires.0) (sym c.self.view_is) c.requires.1 in
     let done = c.in_ok-answer.ensures _ (is-ready _ _ fits c.args.request _ _ c.requires.2 c.as_mut_slice.ensures.value refl) in
-    (_, fits-answered _ _ fits c.args.request c.in_ok-answer.answer _ _ _ _ _ _ _ refl c.is_end-self-inside.ensures c.self.inside.memory.ok.0 done)
+    (_, fits-answered _ _ fits c.args.request c.in_ok-answer.answer _ _ _ _ _ refl c.is_end-self-inside.ensures c.self.inside.memory.ok.0 done)
 
 pub returns : goal.returns
 returns g c state at_first faultless =
     let fits = subst (λ core. IsCoreOf core state) (sym c.self.view_is) at_first in
     let done = c.in_ok-answer.ensures _ (is-ready _ _ fits c.args.request _ _ faultless c.as_mut_slice.ensures.value refl) in
-    fits-answered _ _ fits c.args.request c.in_ok-answer.answer _ _ _ _ _ _ _ refl c.is_end-self-inside.ensures c.self.inside.memory.ok.0 done
+    fits-answered _ _ fits c.args.request c.in_ok-answer.answer _ _ _ _ _ refl c.is_end-self-inside.ensures c.self.inside.memory.ok.0 done
