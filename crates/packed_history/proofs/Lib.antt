@@ -1,2 +1,3 @@
 mod Clean
+mod Kept
 mod Packing

@@ -1,4 +1,5 @@
 pub mod Shorts
 pub mod Packing
+pub mod Refusals
 pub mod Lists
 pub mod Entries

@@ -1,7 +1,8 @@
 -- A receipt in sixteen bytes: its number, its strand, its line and its deed's tag stand in one number, the head.
-use Rattle.std.specs.Prelude.{◌≡◌, ℕ, ◌*◌, ◌/◌, ◌%◌, ◌^◌, ◌==◌, ◌<◌, if◌then◌else◌}
+use Rattle.std.specs.Prelude.{◌≡◌, ℕ, ◌*◌, ◌/◌, ◌%◌, ◌^◌, ◌==◌, ◌<◌, nat_lt, if◌then◌else◌}
 use Rattle.packed_history.specs.Shorts.{Short, Deed, IsShortOf}
-use Rattle.packed_history.specs.Shorts.{Open, Spawn, Call, Pass, Join, Wait, Resume, End, EndJoin, Finish, Read, Write, Bump, Update, Put, Get, Long}
+use Rattle.packed_history.specs.Shorts.{Open, Spawn, Call, Pass, Join, Wait, Resume, End, EndJoin, Finish, Read, Write, Bump, Update, Put, Get}
+use Rattle.packed_history.specs.Shorts.{Refused, Long}
 use Rattle.model_accesses.specs.declared.request.Act.{Act}
 use Rattle.model_histories.specs.declared.answer.Answer.{Answer}
 use Rattle.packed_history.specs.declared.deed.Numbers.{Numbers}
@@ -35,9 +36,10 @@ deed_with tag first second =
     if tag == 12 then Bump first second else
     if tag == 13 then Update first second else
     if tag == 14 then Put first second else
-    if tag == 15 then Get first second else Long first second
+    if tag == 15 then Get first second else
+    if nat_lt tag 22 then Refused tag first second else Long first second
 
--- the numbers, of a deed that is not kept beside, say what was asked and answered
+-- the numbers, of a deed that has nothing beside, say what was asked and answered
 abbrev pub IsToldBy : Act → Answer → Numbers → Type 0
 IsToldBy asked answered numbers = (numbers.tag < 16) × IsShortOf asked answered (deed_with numbers.tag numbers.first numbers.second)
 

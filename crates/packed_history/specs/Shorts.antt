@@ -1,5 +1,5 @@
 -- Receipts in small numbers.
-use Rattle.std.specs.Prelude.{◌≡◌, ◌≢◌, ℕ, Bool, true, false, ◌+◌, ◌*◌, ◌%◌, ◌^◌}
+use Rattle.std.specs.Prelude.{◌≡◌, ℕ, Bool, true, false, ◌+◌, ◌*◌, ◌%◌, ◌^◌}
 use Rattle.model_accesses.specs.declared.request.Act.{Act}
 use Rattle.model_accesses.specs.declared.request.Act.TheVariants as act
 use Rattle.model_histories.specs.declared.answer.Answer.{Answer}
@@ -27,6 +27,8 @@ pub data Deed : Type 0 where
   Update : (reducer value : ℕ) → Deed
   Put : (reducer value : ℕ) → Deed
   Get : (reducer value : ℕ) → Deed
+  -- a refused access of this tag; what else belongs to it is kept beside, at this place
+  Refused : (tag first place : ℕ) → Deed
   -- the receipt is kept beside, at the place with these halves
   Long : (low high : ℕ) → Deed
 
@@ -55,6 +57,7 @@ deed_act (Bump cell value) = act.Bump cell value
 deed_act (Update reducer value) = act.Update reducer value
 deed_act (Put reducer value) = act.Put reducer value
 deed_act (Get reducer value) = act.Get reducer
+deed_act (Refused tag first place) = act.Call
 deed_act (Long low high) = act.Call
 
 -- what was answered; a spawner's next strand has the number behind its child's
@@ -75,14 +78,28 @@ answer_of (Bump cell value) = answer.Granted
 answer_of (Update reducer value) = answer.Granted
 answer_of (Put reducer value) = answer.Granted
 answer_of (Get reducer value) = answer.Value value
+answer_of (Refused tag first place) = answer.Same
 answer_of (Long low high) = answer.Same
 
--- whether the receipt is kept beside, and at which place
+-- whether the receipt is kept beside
 abbrev pub is_long : Deed → Bool
 is_long (Long low high) = true
 is_long _ = false
 
+-- whether it is that of a refused access, of which a part is kept beside
+abbrev pub is_refused : Deed → Bool
+is_refused (Refused tag first place) = true
+is_refused _ = false
+
+-- whether nothing of it is kept beside
+abbrev pub is_short : Deed → Bool
+is_short (Refused tag first place) = false
+is_short (Long low high) = false
+is_short _ = true
+
+-- at which place it is kept beside
 abbrev pub index_of : Deed → ℕ
+index_of (Refused tag first place) = place
 index_of (Long low high) = high * 2 ^ 32 + low
 index_of _ = 0
 
@@ -96,4 +113,4 @@ plain short = record {
 
 -- the deed says what was asked and answered
 abbrev pub IsShortOf : Act → Answer → Deed → Type 0
-IsShortOf asked answered deed = (is_long deed ≢ true) × (deed_act deed ≡ asked) × (answer_of deed ≡ answered)
+IsShortOf asked answered deed = (is_short deed ≡ true) × (deed_act deed ≡ asked) × (answer_of deed ≡ answered)

@@ -16,7 +16,7 @@ pub struct Numbers {
 }
 
 #[inline(always)]
-fn in_numbers(tag: u64, first: u32, second: u32) -> Numbers
+pub fn in_numbers(tag: u64, first: u32, second: u32) -> Numbers
     ensures { result ≡ record { tag = tag; first = first; second = second } }
 {
     Numbers { tag, first, second }
@@ -24,7 +24,7 @@ fn in_numbers(tag: u64, first: u32, second: u32) -> Numbers
 
 /// The value, where it is small.
 #[inline(always)]
-fn to_u32(value: u64) -> Option<u32>
+pub fn to_u32(value: u64) -> Option<u32>
     ensures { IfSome result (λ number. number ≡ value) }
 {
     if value <= 4_294_967_295 {

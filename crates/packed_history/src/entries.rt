@@ -3,7 +3,7 @@
 ghost use Rattle.std.specs.Prelude.{◌≡◌, ◌↔◌, ◌<◌, ◌++◌, ◌∷◌, [], true, get_or, length, slice_get, Some, IsTrue, IfOk, OnOk, OnErr};
 ghost use Rattle.model_histories.specs.declared.answer.Entry.{Entry as OneEntry};
 ghost use Rattle.model_histories.specs.declared.reply.Receipt.{Receipt as OneReceipt};
-ghost use Rattle.model_histories.specs.Extensions.{IsClean};
+ghost use Rattle.model_histories.specs.Extensions.{IsClean, IsCleanAnswer};
 ghost use Rattle.packed_history.specs.Entries.{entry_of as entry_spec};
 
 use crate::deed::is_same_entry;
@@ -75,11 +75,20 @@ impl<A: Allocator> Entries<A> {
         self.receipts.len()
     }
 
-    /// Whether it is known that none of them is refused, since such are not kept short.
+    /// Whether it is known that none of them is refused, since each such has something beside.
     pub fn are_clean(&self) -> bool
         ensures { IsTrue result → IsClean self.now.items }
     {
         self.receipts.are_clean()
+    }
+
+    /// Whether it is known that the entry at a place is not refused, since each such has something beside.
+    #[inline(always)]
+    pub fn is_clean(&self, at: usize) -> bool
+        requires { at < length self.now.items }
+        ensures { IsTrue result → (entry : OneEntry) → slice_get self.now.items at ≡ Some entry → IsCleanAnswer entry.answer }
+    {
+        self.receipts.is_clean(at)
     }
 
     /// The entry at a place.
@@ -100,7 +109,8 @@ impl<A: Allocator> Entries<A> {
         ensures { IsTrue result ↔
             ((e : OneEntry) (r : OneReceipt) → entry_spec (get_or receipts.now.items place r) ≡ get_or self.now.items at e) }
     {
-        is_same_entry(entry_of(receipts.get(place)), self.get(at))
+        self.receipts.is_plainly_refused(at, receipts, place)
+            || is_same_entry(entry_of(receipts.get(place)), self.get(at))
     }
 
     /// Whether the receipt at a place of a list is of the entry at this place, whatever its number.

@@ -5,9 +5,11 @@ ghost use Rattle.std.specs.List.{All};
 ghost use Rattle.model_histories.specs.declared.reply.Receipt.{Receipt as OneReceipt};
 ghost use Rattle.model_histories.specs.Extensions.{IsCleanAnswer};
 ghost use Rattle.packed_history.specs.Packing.{unpacked};
-ghost use Rattle.packed_history.specs.Shorts.{index_of as index_spec, is_long as is_long_spec, plain as plain_spec};
+ghost use Rattle.packed_history.specs.Refusals.{refused as refused_spec};
+ghost use Rattle.packed_history.specs.Shorts.{index_of as index_spec, is_long as is_long_spec, is_refused as is_refused_spec, plain as plain_spec};
 
-use crate::packed::{Packed, long_at, packed_of};
+use crate::packed::{Packed, long_at, packed_of, refused_of};
+use crate::refusal::{Refusal, is_same_refusal};
 use model_histories::Receipt;
 use std::alloc::{AllocError, Allocator, Global};
 use std::marker::Model;
@@ -23,11 +25,35 @@ fn long_of(longs: &[Receipt], short: Packed) -> Receipt
     }
 }
 
+/// The receipt of a refused access that has something beside.
+fn refused_in(refusals: &[Refusal], short: Packed) -> Receipt
+    requires { is_refused_spec (unpacked short).deed ≡ true }
+    ensures { result ≡ refused_spec (slice_get refusals.now (index_spec (unpacked short).deed)) (unpacked short) }
+{
+    match refusals.get(short.place() as usize) {
+        Some(refusal) => short.unpack_refused(*refusal),
+        None => short.unpack(),
+    }
+}
+
+/// Whether one thing stands at these places of the two lists.
+fn is_same_at(ones: &[Refusal], at: usize, others: &[Refusal], place: usize) -> bool
+    ensures { IsTrue result → slice_get ones.now at ≡ slice_get others.now place }
+{
+    match (ones.get(at), others.get(place)) {
+        (Some(one), Some(other)) => is_same_refusal(*one, *other),
+        _ => false,
+    }
+}
+
 /// Receipts in their order.
 pub struct Receipts<A: Allocator = Global> {
     shorts: Vec<Packed, A>,
     longs: Vec<Receipt, A>,
+    refusals: Vec<Refusal, A>,
     has_room: bool,
+    /// Whether there is room in the lists beside, which most receipts leave as they are.
+    has_room_beside: bool,
 }
 
 /// The lists are made small before they are let go: a great block that is let go raises the size below which the C library's heap copies
@@ -37,12 +63,16 @@ impl<A: Allocator> Drop for Receipts<A> {
         let Receipts {
             mut shorts,
             mut longs,
+            mut refusals,
             has_room: _,
+            has_room_beside: _,
         } = self;
         shorts.clear();
         shorts.shrink_to(1);
         longs.clear();
         longs.shrink_to(1);
+        refusals.clear();
+        refusals.shrink_to(1);
     }
 }
 
@@ -52,10 +82,12 @@ impl<A: Allocator> Model for Receipts<A> {
 
     ghost Value = { Listed };
 
-    ghost view = { λ list. record { items = receipts_of list.longs.items list.shorts.items; has_room = list.has_room } };
+    ghost view = { λ list. record { items = receipts_of list.longs.items list.refusals.items list.shorts.items; has_room = list.has_room } };
 
-    ghost invariant = { λ list. AreKept list.longs.items list.shorts.items
-        × (list.has_room ≡ true → (vec_len list.shorts < vec_capacity list.shorts) × (vec_len list.longs < vec_capacity list.longs)) };
+    ghost invariant = { λ list. AreKept list.longs.items list.refusals.items list.shorts.items
+        × (list.has_room ≡ true → (vec_len list.shorts < vec_capacity list.shorts) × (vec_len list.longs < vec_capacity list.longs)
+        × (vec_len list.refusals < vec_capacity list.refusals))
+        × (list.has_room_beside ≡ true → (vec_len list.longs < vec_capacity list.longs) × (vec_len list.refusals < vec_capacity list.refusals)) };
 }
 
 impl<A: Allocator + Copy> Receipts<A> {
@@ -66,7 +98,9 @@ impl<A: Allocator + Copy> Receipts<A> {
         Receipts {
             shorts: Vec::new(alloc),
             longs: Vec::new(alloc),
+            refusals: Vec::new(alloc),
             has_room: false,
+            has_room_beside: false,
         }
     }
 }
@@ -80,10 +114,35 @@ impl<A: Allocator> Receipts<A> {
     {
         if !self.has_room {
             self.shorts.reserve(1)?;
-            self.longs.reserve(1)?;
+            if !self.has_room_beside {
+                self.longs.reserve(1)?;
+                self.refusals.reserve(1)?;
+                self.has_room_beside = true;
+            }
             self.has_room = true;
         }
         Ok(())
+    }
+
+    /// Adds a receipt that has no form in sixteen bytes alone.
+    #[inline(always)]
+    fn push_beside(&mut self, receipt: Receipt)
+        requires { self.old.has_room ≡ true }
+        ensures { self.new.items ≡ self.old.items ++ receipt ∷ [] }
+    {
+        self.has_room = false;
+        self.has_room_beside = false;
+        match refused_of(receipt, self.refusals.len()) {
+            Some((short, refusal)) => {
+                self.refusals.push_reserved(refusal);
+                self.shorts.push_reserved(short);
+            }
+            None => {
+                let short = long_at(self.longs.len());
+                self.longs.push_reserved(receipt);
+                self.shorts.push_reserved(short);
+            }
+        }
     }
 
     /// Adds a receipt at the end, for which room was made.
@@ -92,14 +151,12 @@ impl<A: Allocator> Receipts<A> {
         requires { self.old.has_room ≡ true }
         ensures { self.new.items ≡ self.old.items ++ receipt ∷ [] }
     {
-        self.has_room = false;
         match packed_of(receipt) {
-            Some(short) => self.shorts.push_reserved(short),
-            None => {
-                let short = long_at(self.longs.len());
-                self.longs.push_reserved(receipt);
+            Some(short) => {
+                self.has_room = false;
                 self.shorts.push_reserved(short);
             }
+            None => self.push_beside(receipt),
         }
     }
 
@@ -120,11 +177,20 @@ impl<A: Allocator> Receipts<A> {
         self.shorts.len()
     }
 
-    /// Whether it is known that none of them is a refusal, since such are not kept short.
+    /// Whether it is known that none of them is a refusal, since each such has something beside.
     pub fn are_clean(&self) -> bool
         ensures { IsTrue result → All (λ receipt. IsCleanAnswer receipt.answer) self.now.items }
     {
-        self.longs.is_empty()
+        self.longs.is_empty() && self.refusals.is_empty()
+    }
+
+    /// Whether it is known that the receipt at a place is no refusal, since each such has something beside.
+    #[inline(always)]
+    pub fn is_clean(&self, at: usize) -> bool
+        requires { at < length self.now.items }
+        ensures { IsTrue result → (receipt : OneReceipt) → slice_get self.now.items at ≡ Some receipt → IsCleanAnswer receipt.answer }
+    {
+        self.shorts[at].is_short()
     }
 
     /// Whether there are none.
@@ -142,10 +208,12 @@ impl<A: Allocator> Receipts<A> {
         ensures { slice_get self.now.items at ≡ Some result }
     {
         let short = self.shorts[at];
-        if short.is_long() {
+        if short.is_short() {
+            short.unpack()
+        } else if short.is_long() {
             long_of(self.longs.as_slice(), short)
         } else {
-            short.unpack()
+            refused_in(self.refusals.as_slice(), short)
         }
     }
 
@@ -186,7 +254,32 @@ impl<A: Allocator> Receipts<A> {
         ensures { IsTrue result → slice_get self.now.items at ≡ slice_get other.now.items place }
     {
         let short = self.shorts[at];
-        !short.is_long() && short.is_same(other.shorts[place])
+        short.is_short() && short.is_same(other.shorts[place])
+    }
+
+    /// Whether it is seen at once that the receipt at a place is that of another list: both are of refused accesses, in the same bytes but
+    /// for the places of what they have beside.
+    pub(crate) fn is_plainly_refused<B: Allocator>(
+        &self,
+        at: usize,
+        other: &Receipts<B>,
+        place: usize,
+    ) -> bool
+        requires at { at < length self.now.items }
+        requires place { place < length other.now.items }
+        ensures { IsTrue result → slice_get self.now.items at ≡ slice_get other.now.items place }
+    {
+        let one = self.shorts[at];
+        let another = other.shorts[place];
+        if one.is_short() || one.is_long() || !one.is_alike(another) {
+            return false;
+        }
+        is_same_at(
+            self.refusals.as_slice(),
+            one.place() as usize,
+            other.refusals.as_slice(),
+            another.place() as usize,
+        )
     }
 
     /// The receipt at a place.
@@ -195,10 +288,10 @@ impl<A: Allocator> Receipts<A> {
         requires { at < length self.now.items }
         ensures { slice_get self.now.items at ≡ Some result }
     {
-        if self.shorts[at].is_long() {
-            self.either(at)
-        } else {
+        if self.shorts[at].is_short() {
             self.shorts[at].unpack()
+        } else {
+            self.either(at)
         }
     }
 }

@@ -1,14 +1,16 @@
 //! A receipt in sixteen bytes.
 
-ghost use Rattle.std.specs.Prelude.{◌≡◌, ◌≢◌, ◌↔◌, ◌+◌, ◌%◌, ◌^◌, IsTrue, true};
+ghost use Rattle.std.specs.Prelude.{◌≡◌, ◌↔◌, ◌+◌, ◌%◌, ◌^◌, IsTrue, true};
 ghost use Rattle.std.specs.Option.{IfSome};
 ghost use Rattle.model_histories.specs.declared.reply.Receipt.{Receipt as SpecReceipt};
 ghost use Rattle.packed_history.specs.Shorts.{deed_act as act_spec, answer_of as answer_spec, index_of as index_spec};
-ghost use Rattle.packed_history.specs.Shorts.{is_long as is_long_spec, plain as plain_spec};
+ghost use Rattle.packed_history.specs.Shorts.{is_long as is_long_spec, is_refused as is_refused_spec, is_short as is_short_spec, plain as plain_spec};
 ghost use Rattle.packed_history.specs.Packing.{deed_with as deed_spec};
 ghost use Rattle.packed_history.specs.Packing.{IsStart, unpacked};
+ghost use Rattle.packed_history.specs.Refusals.{with_refusal};
 
-use crate::deed::numbers_of;
+use crate::deed::{numbers_of, to_u32};
+use crate::refusal::{Refusal, access_numbers, act_of, answer_of};
 use model_accesses::{Act, Request};
 use model_histories::{Answer, Receipt};
 use model_strands::Spawned;
@@ -22,8 +24,10 @@ const STRANDS: u64 = 1 << 22;
 const LINES: u64 = 1 << 17;
 /// How many heads have the tag 0.
 const HEADS: u64 = NUMBERS * STRANDS * LINES;
+/// The first tag of a refused access, whose witness is kept beside.
+const REFUSED: u64 = 16;
 /// The tag of a receipt that is kept beside, from which on all tags are such.
-const LONG: u64 = 16;
+const LONG: u64 = 22;
 
 /// A receipt in sixteen bytes: the head holds its number, its strand, its line and the tag of its deed, from the lowest bit up; behind it
 /// stand the deed's two numbers, or 0.
@@ -94,7 +98,7 @@ fn start_of(number: u32, request: Request) -> Option<u64>
 /// The receipt in sixteen bytes, where it has such.
 #[inline(always)]
 pub fn packed_of(receipt: Receipt) -> Option<Packed>
-    ensures { IfSome result (λ packed. (is_long_spec (unpacked packed).deed ≢ true) × (plain_spec (unpacked packed) ≡ receipt)) }
+    ensures { IfSome result (λ packed. (is_short_spec (unpacked packed).deed ≡ true) × (plain_spec (unpacked packed) ≡ receipt)) }
 {
     let start = start_of(receipt.number, receipt.request)?;
     let numbers = numbers_of(receipt.request.act, receipt.answer)?;
@@ -103,6 +107,36 @@ pub fn packed_of(receipt: Receipt) -> Option<Packed>
         first: numbers.first,
         second: numbers.second,
     })
+}
+
+/// The receipt of a refused access in sixteen bytes, and what stands at this place beside, where it has such.
+#[inline(always)]
+pub fn refused_of(receipt: Receipt, place: usize) -> Option<(Packed, Refusal)>
+    ensures { IfSome result (λ both.
+        (is_refused_spec (unpacked both.0).deed ≡ true) × (index_spec (unpacked both.0).deed ≡ place)
+        × (with_refusal both.1 (unpacked both.0) ≡ receipt)) }
+{
+    match receipt.answer {
+        Answer::Refused { rule, witness } => {
+            let start = start_of(receipt.number, receipt.request)?;
+            let numbers = access_numbers(receipt.request.act)?;
+            let second = to_u32(place as u64)?;
+            let short = Packed {
+                head: start + HEADS * numbers.tag,
+                first: numbers.first,
+                second,
+            };
+            let refusal = Refusal {
+                value: numbers.second,
+                entry: witness.entry,
+                strand: witness.strand,
+                rule,
+                kind: witness.kind,
+            };
+            Some((short, refusal))
+        }
+        _ => None,
+    }
 }
 
 /// Stands for the receipt that is kept beside at this place.
@@ -119,12 +153,28 @@ pub fn long_at(place: usize) -> Packed
 }
 
 impl Packed {
+    /// Whether the two differ at most in the place of what they have beside.
+    #[inline(always)]
+    pub fn is_alike(self, other: Packed) -> bool
+        ensures { IsTrue result ↔ (self.head ≡ other.head) × (self.first ≡ other.first) }
+    {
+        self.head == other.head && self.first == other.first
+    }
+
     /// Whether the two are the same bytes.
     #[inline(always)]
     pub fn is_same(self, other: Packed) -> bool
         ensures { IsTrue result ↔ self ≡ other }
     {
-        self.head == other.head && self.first == other.first && self.second == other.second
+        self.is_alike(other) && self.second == other.second
+    }
+
+    /// Whether the receipt is kept in these bytes alone.
+    #[inline(always)]
+    pub fn is_short(self) -> bool
+        ensures { result ≡ is_short_spec (unpacked self).deed }
+    {
+        self.head / HEADS < REFUSED
     }
 
     /// Whether the receipt is kept beside.
@@ -171,6 +221,30 @@ impl Packed {
             },
             answer,
         }
+    }
+
+    /// The receipt of the refused access that has this beside.
+    pub fn unpack_refused(self, refusal: Refusal) -> Receipt
+        requires { is_refused_spec (unpacked self).deed ≡ true }
+        ensures { result ≡ with_refusal refusal (unpacked self) }
+    {
+        Receipt {
+            number: self.number(),
+            request: Request {
+                strand: self.strand(),
+                line: self.line(),
+                act: act_of(self.head / HEADS, self.first, refusal.value),
+            },
+            answer: answer_of(refusal),
+        }
+    }
+
+    /// The place of what a refused access has beside.
+    pub fn place(self) -> u32
+        requires { is_refused_spec (unpacked self).deed ≡ true }
+        ensures { result ≡ index_spec (unpacked self).deed }
+    {
+        self.second
     }
 
     /// The place of the receipt that is kept beside.

@@ -112,6 +112,44 @@ const FAULTS: &[Case<'static>] = &[
   = help: put the comment below the line `cilk 1`
 ",
     ),
+    // A source of C in place of a program.
+    (
+        "/* counts words */\n#include <stdio.h>\n\nint main(void) { return 0; }\n",
+        1,
+        Cause::BadHeader,
+        "error: this text is C or C++, and no program or trace of `cilkcheck`
+ --> p.cilk:1
+  |
+1 | /* counts words */
+  | ^^^^^^^^^^^^^^^^^^
+  = help: compile it with `cilkcheck-cc` or `cilkcheck-c++`, run that program, and explain the trace that it writes
+",
+    ),
+    (
+        "#include <cilk/cilk.h>\nint main() {\n}\n",
+        1,
+        Cause::BadHeader,
+        "error: this text is C or C++, and no program or trace of `cilkcheck`
+ --> p.cilk:1
+  |
+1 | #include <cilk/cilk.h>
+  | ^
+  = help: compile it with `cilkcheck-cc` or `cilkcheck-c++`, run that program, and explain the trace that it writes
+",
+    ),
+    // A version that there is not, with such a line below it.
+    (
+        "cilk 3\n#include <stdio.h>\n",
+        1,
+        Cause::BadHeader,
+        "error: the version of a text is 1 or 2
+ --> p.cilk:1
+  |
+1 | cilk 3
+  |      ^
+  = help: write `cilk 1`, or `cilk 2` for `bump`, `pfor` and `digits`
+",
+    ),
 ];
 
 #[test]

@@ -1,10 +1,10 @@
-use Rattle.std.proofs.Common.{rules, ◌≡◌, ◌+◌, length, map, sym, ap, arith, ◌∙◌}
+use Rattle.std.proofs.Common.{rules, ◌≡◌, ◌+◌, [], length, map, refl, sym, ap, subst, arith, ◌∙◌}
 use Rattle.std.specs.List.{sum_by}
-use Rattle.std.proofs.lemmas.List.{length-map, map-id}
+use Rattle.std.proofs.lemmas.List.{length-map, map-id, nil_from_length}
 use Rattle.std.proofs.lemmas.Iterator.Adapters.{YieldsList-from_vec}
 use Rattle.std.proofs.lemmas.Iterator.Consumers.{YieldsList-end}
 use Rattle.crossbeam_deque.specs.Handles.{worker_deque}
-use Rattle.locked_replay.specs.Logs.{all_receipts}
+use Rattle.locked_replay.specs.Logs.{all_receipts, all_asked}
 use Rattle.steal_workers.specs.StealHandles.{deque_of, own_deque, deques_of}
 use Rattle.steal_workers.specs.Workers.{station_of, stations_of, owns_of, others_of}
 use Rattle.steal_workers.proofs.Grown.{said_more, said_through, asked_more}
@@ -53,3 +53,19 @@ returns-clause-asked g c =
     let workers = c.args.workers.items in
     let all = YieldsList-end (YieldsList-from_vec workers c.into_iter-worker-iterator.ensures.into_iter_gives.0 (omega (arith, c.into_iter-worker-iterator.ensures.into_iter_gives.1, c.args.workers.ok.0))) c.loop-worker.yielded c.loop-worker.worker-iterator c.loop-worker.yielded_by c.next.result c.next.new.self c.in-None.is c.next.ensures.steps in
     c.loop-worker.invariant.asked ∙ ap (λ ws. sum_by (λ w. w.before) ws + length (all_receipts c.loop-worker.logs.items)) (sym (map-id c.loop-worker.yielded) ∙ all.0)
+
+pub loop-worker-init : goal.loop-worker-init
+loop-worker-init g c =
+    let room = c.requires.room in
+    let self = c.args.self in
+    let logs : self.logs.items ≡ [] = nil_from_length self.logs.items (omega (arith, room.0, self.logs.ok.0)) in
+    let owners : self.owners.items ≡ [] = nil_from_length self.owners.items (omega (arith, room.1, self.owners.ok.0)) in
+    let passes : self.passes.items ≡ [] = nil_from_length self.passes.items (omega (arith, room.2, self.passes.ok.0)) in record {
+      logs_room = search rules;
+      owners_room = search rules;
+      passes_room = search rules;
+      receipts = ap (map (λ log. log.receipts)) logs;
+      asked = subst (λ these. all_asked these ≡ 0 + length (all_receipts these)) (sym logs) refl;
+      owners = ap (map worker_deque) owners;
+      passes = ap (map (λ reaches. map deque_of reaches.items)) passes;
+    }
