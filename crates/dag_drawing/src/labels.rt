@@ -2,8 +2,7 @@
 
 ghost use Rattle.std.specs.Prelude.{◌≡◌, ◌++◌, ◌≤◌, IfOk, OnOk, IsTrue, codes, decimal, length, map, take, string_bytes};
 ghost use Rattle.std.specs.Option.{option_map};
-ghost use Rattle.trace_text.specs.Shapes.{is_numbered, name_in, name_of_cell};
-ghost use Rattle.trace_text.specs.Printing.{name_of_reducer};
+ghost use Rattle.trace_text.specs.Shapes.{is_numbered};
 ghost use Rattle.trace_notes.specs.Places.{place_parts};
 ghost use Rattle.dag_drawing.specs.Texts.{kind_text, outcome_text, rule_text, count_own};
 ghost use Rattle.dag_drawing.specs.Labels.{naming_of, plain_name, told_name, place_of, site_text, access_line, first_place, function_text};
@@ -16,7 +15,7 @@ use std::alloc::{AllocError, Allocator};
 use std::fmt::Write;
 use text_words::{Act, Mem, Reducer, asked_by};
 use trace_notes::{Notes, Place};
-use trace_text::memory_at;
+use trace_text::{put_cell_name, reducer_name};
 
 /// The most accesses of a strand that are told.
 const MOST_TOLD: usize = 12;
@@ -39,42 +38,6 @@ fn put_number<A: Allocator>(line: &mut String<A>, number: usize) -> Result<(), A
     write!(line, "{number}")
 }
 
-/// Adds the name of a memory's cell with this index.
-fn put_element<A: Allocator>(name: &mut String<A>, mem: &Mem, index: u32) -> Result<(), AllocError>
-    ensures { OnOk result (string_bytes name.new ≡ string_bytes name.old ++ name_in mem.now index) }
-{
-    name.push_str(mem.name.as_str())?;
-    if mem.array {
-        write!(name, "[{index}]")?;
-    }
-    Ok(())
-}
-
-/// Adds the name of the cell with this number.
-fn put_cell<A: Allocator>(
-    name: &mut String<A>,
-    mems: &[Mem],
-    location: u32,
-) -> Result<(), AllocError>
-    requires numbered { IsTrue (is_numbered 0 mems.now) }
-    ensures { OnOk result (string_bytes name.new ≡ string_bytes name.old ++ name_of_cell mems.now location) }
-{
-    match memory_at(mems, location) {
-        Some(mem) => put_element(name, mem, location - mem.first),
-        None => Ok(()),
-    }
-}
-
-/// The name of the reducer with this number.
-fn reducer_name(reducers: &[Reducer], number: u32) -> &str
-    ensures { result.now ≡ name_of_reducer reducers.now number }
-{
-    match reducers.get(number as usize) {
-        Some(reducer) => reducer.name.as_str(),
-        None => "",
-    }
-}
-
 /// The name that the trace declares for what an act accesses.
 fn plain_name<A: Allocator + Copy>(
     alloc: A,
@@ -87,7 +50,7 @@ fn plain_name<A: Allocator + Copy>(
     let mut name = String::new(alloc);
     match act {
         Act::Read(location) | Act::Write(location, _) | Act::Bump(location, _) => {
-            put_cell(&mut name, names.mems, location)?
+            put_cell_name(&mut name, names.mems, location)?
         }
         Act::Update(reducer, _) | Act::Put(reducer, _) | Act::Get(reducer) => {
             name.push_str(reducer_name(names.reducers, reducer))?

@@ -3,7 +3,7 @@
 ghost use Rattle.std.specs.Prelude.{◌≡◌, ◌++◌, ◌∷◌, ℕ, [], List, IsTrue, OnOk, codes, string_bytes};
 ghost use Rattle.text_words.specs.declared.value.Version.{Version};
 ghost use Rattle.trace_text.specs.Shapes.{is_numbered};
-ghost use Rattle.trace_text.specs.Printing.{behind_space, name_of_reducer, spaced};
+ghost use Rattle.trace_text.specs.Printing.{behind_space, spaced};
 ghost use Rattle.program_lines.specs.Grammar.{keyword_of_statement};
 ghost use Rattle.program_lines.specs.Printing.{IsNamedFunction, argument_words, location_word};
 ghost use Rattle.program_lines.specs.Printing.{name_of_array, name_of_register, operand_word, printed_scope, statement_words};
@@ -18,7 +18,7 @@ use model_bodies::{Expression, Location, Operand, Register, Statement};
 use std::alloc::{AllocError, Allocator};
 use std::fmt::Write;
 use text_words::{Mem, Name, Reducer};
-use trace_text::{memory_at, put_cell, put_number, put_word};
+use trace_text::{memory_at, put_cell, put_number, put_word, reducer_name};
 
 /// The name of a register.
 fn register_name(registers: &[Name], register: Register) -> &str
@@ -29,16 +29,6 @@ fn register_name(registers: &[Name], register: Register) -> &str
     }
     match registers.get(register.index as usize - 1) {
         Some(name) => name.as_str(),
-        None => "",
-    }
-}
-
-/// The name of a reducer.
-fn reducer_name(reducers: &[Reducer], number: u32) -> &str
-    ensures { result.now ≡ name_of_reducer reducers.now number }
-{
-    match reducers.get(number as usize) {
-        Some(reducer) => reducer.name.as_str(),
         None => "",
     }
 }

@@ -1,8 +1,9 @@
 -- The values that the refusals of a report are printed from, as JSON.
-use Rattle.std.specs.Prelude.{ℕ, Option, Some, None, List, ◌++◌, map, codes, decimal}
+use Rattle.std.specs.Prelude.{ℕ, Option, Some, None, List, ◌++◌, map}
 use Rattle.serde_json.specs.Data.{Data, null}
 use Rattle.serde_json.specs.View.{items_of}
 use Rattle.serde_json.specs.Written.{items_text}
+use Rattle.trace_text.specs.Shapes.{name_in}
 use Rattle.race_report.specs.declared.refusal.AskedName.{AskedName}
 use Rattle.race_report.specs.declared.refusal.AskedName.TheVariants.{Whole, Element}
 use Rattle.race_report.specs.declared.printer.Printer.{Printer}
@@ -18,7 +19,7 @@ witness_in (Some lined) = witness_told lined.line lined.witness
 -- the name of what a request asks for
 abbrev pub name_text : AskedName → List ℕ
 name_text (Whole name) = name.now
-name_text (Element alloc array index) = array.now ++ (codes "[" ++ decimal index ++ codes "]")
+name_text (Element alloc array index) = name_in array.now index
 
 abbrev pub refusal_in : Refusal → Data
 refusal_in refusal = refusal_told refusal.number refusal.request (name_text refusal.name) refusal.rule.now (witness_in refusal.witness)

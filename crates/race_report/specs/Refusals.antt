@@ -4,19 +4,15 @@ use Rattle.std.specs.Option.{option_map, option_to_list}
 use Rattle.serde_json.specs.Data.{Data, null, number, unsigned, string, object, member, no_members}
 use Rattle.model_accesses.specs.declared.request.Act.{Act}
 use Rattle.model_accesses.specs.declared.request.Act.TheVariants.{Read, Write, Bump, Update, Put, Get}
-use Rattle.text_words.specs.declared.value.Reducer.{Reducer}
 use Rattle.model_accesses.specs.declared.request.Request.{Request}
 use Rattle.trace_text.specs.Shapes.{name_of_cell}
+use Rattle.trace_text.specs.Printing.{name_of_reducer}
 use Rattle.text_words.specs.Values.{Known}
 use Rattle.model_accesses.specs.declared.witness.Witness.{Witness}
 use Rattle.model_histories.specs.declared.answer.Answer.{Answer}
 use Rattle.model_histories.specs.declared.answer.Answer.TheVariants.{Refused, Unset}
 use Rattle.model_histories.specs.declared.answer.Entry.{Entry}
 use Rattle.verdict_lines.specs.VerdictText.{refusal_word}
-
--- the name of the reducer with this number
-abbrev pub name_of_reducer : List Reducer → ℕ → List ℕ
-name_of_reducer reducers reducer = unwrap_or (option_map (λ found. found.name) (slice_get reducers reducer)) []
 
 -- the name of the cell or the reducer that an act asks for
 abbrev pub name_asked : Known → Act → List ℕ

@@ -10,7 +10,7 @@ ghost use Rattle.trace_text.specs.Shapes.{is_numbered, name_of_cell};
 ghost use Rattle.program_text.specs.Programs.{contents};
 ghost use Rattle.model_histories.specs.declared.answer.Entry.{Entry as OneEntry};
 ghost use Rattle.model_histories.specs.Shapes.{IsInRange};
-ghost use Rattle.model_histories.specs.Extensions.{IsCleanAnswer, IsClean};
+ghost use Rattle.model_histories.specs.Extensions.{IsClean};
 ghost use Rattle.verdict_lines.specs.VerdictText.{kind_asked};
 ghost use Rattle.race_report.specs.Refusals.{name_asked, line_of_entry, answer_told, refusals_told};
 ghost use Rattle.race_report.specs.RefusalValues.{name_text, refusal_in};
@@ -26,7 +26,7 @@ use race_gate::{Answer, Entry};
 use serde_json::{Map, Value, json, put};
 use std::alloc::{AllocError, Allocator, Global};
 use text_words::{Act, Mem};
-use trace_text::memory_at;
+use trace_text::{memory_at, reducer_name};
 use verdict_lines::rule_of_refusal;
 
 /// The name of the cell with this number.
@@ -37,11 +37,7 @@ fn name_of_cell<'a>(alloc: Global, mems: &'a [Mem], location: u32) -> AskedName<
     ensures { name_text result ≡ name_of_cell mems.now location }
 {
     match memory_at(mems, location) {
-        Some(mem) if mem.array => AskedName::Element(
-            alloc,
-            mem.name.as_str(),
-            location - mem.first,
-        ),
+        Some(mem) if mem.array => AskedName::Element(alloc, mem, location - mem.first),
         Some(mem) => AskedName::Whole(mem.name.as_str()),
         None => unreachable!(),
     }
@@ -59,8 +55,7 @@ fn name_of<'a, A: Allocator>(alloc: Global, program: &'a Program<A>, act: Act) -
             name_of_cell(alloc, program.mems.as_slice(), cell)
         }
         Act::Update(reducer, _) | Act::Put(reducer, _) | Act::Get(reducer) => {
-            let reducers = program.reducers.as_slice();
-            AskedName::Whole(reducers[reducer as usize].name.as_str())
+            AskedName::Whole(reducer_name(program.reducers.as_slice(), reducer))
         }
         Act::Spawn | Act::Sync | Act::Call | Act::Return => unreachable!(),
     }
@@ -121,15 +116,8 @@ fn refusal_of<'a, A: Allocator, B: Allocator>(
     })
 }
 
-/// Whether an answer is a refusal.
-#[inline(always)]
-fn is_refusal(answer: Answer) -> bool
-    ensures { result ≡ false → IsCleanAnswer answer }
-{
-    matches!(answer, Answer::Refused { .. } | Answer::Unset)
-}
-
-/// What is told of the entry at this place, which has this number, where it is a refusal. Of another entry only the answer is unpacked.
+/// What is told of the entry at this place, which has this number, where it is a refusal. An entry that is known to be clean is not
+/// unpacked.
 #[inline(always)]
 fn refusal_at<'a, A: Allocator, B: Allocator>(
     alloc: Global,
@@ -144,7 +132,7 @@ fn refusal_at<'a, A: Allocator, B: Allocator>(
     ensures { (entry : OneEntry) → slice_get entries.now.items at ≡ Some entry → option_map refusal_in result
         ≡ answer_told (contents program.now).known entries.now.items number entry.request entry.answer }
 {
-    if !is_refusal(entries.get(at).answer) {
+    if entries.is_clean(at) {
         return None;
     }
     refusal_of(alloc, program, entries, number, entries.get(at))

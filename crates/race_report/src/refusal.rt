@@ -1,17 +1,18 @@
 //! A refusal and its witness as values that `serde_json` prints.
 
-ghost use Rattle.std.specs.Prelude.{◌≡◌, ◌++◌, IfOk, OnOk, codes, decimal, string_bytes};
+ghost use Rattle.std.specs.Prelude.{◌≡◌, IfOk, OnOk, string_bytes};
 ghost use Rattle.serde.specs.Event.{Logs, text as text_event};
 ghost use Rattle.serde_json.specs.Data.{string};
 ghost use Rattle.serde_json.specs.Events.{SendsValue};
+ghost use Rattle.trace_text.specs.Shapes.{name_in};
 ghost use Rattle.race_report.specs.Refusals.{witness_told};
 ghost use Rattle.race_report.specs.RefusalValues.{name_text, refusal_in};
 
 use model_accesses::Witness;
 use serde::{Described, Serialize, Serializer};
 use std::alloc::{AllocError, Global};
-use std::fmt::Write;
-use text_words::Request;
+use text_words::{Mem, Request};
+use trace_text::put_name;
 
 /// The name of what a request asks for. The text of the name of an array's element is made only where it is printed.
 #[derive(Clone, Copy)]
@@ -19,28 +20,26 @@ pub(crate) enum AskedName<'a> {
     /// The only cell of a memory, or a reducer.
     Whole(&'a str),
     /// The element of an array with this index.
-    Element(Global, &'a str, u32),
+    Element(Global, &'a Mem, u32),
 }
 
 /// The name of an array's element.
-fn element_name(alloc: Global, array: &str, index: u32) -> Result<String, AllocError>
-    ensures { IfOk result (λ name. string_bytes name ≡ array.now ++ (codes "[" ++ decimal index ++ codes "]")) }
+fn element_name(alloc: Global, array: &Mem, index: u32) -> Result<String, AllocError>
+    ensures { IfOk result (λ name. string_bytes name ≡ name_in array.now index) }
 {
     let mut name = String::new(alloc);
-    name.push_str(array)?;
-    write!(name, "[{index}]")?;
+    put_name(&mut name, array, index)?;
     Ok(name)
 }
 
 /// Sends the name of an array's element.
 fn send_element<S: Serializer>(
     alloc: Global,
-    array: &str,
+    array: &Mem,
     index: u32,
     out: &mut S,
 ) -> Result<(), S::Error>
-    ensures { OnOk result (Logs (S.written out.old) (S.written out.new)
-        (text_event (array.now ++ (codes "[" ++ decimal index ++ codes "]")))) }
+    ensures { OnOk result (Logs (S.written out.old) (S.written out.new) (text_event (name_in array.now index))) }
 {
     match element_name(alloc, array, index) {
         Ok(name) => out.str(name.as_str()),

@@ -1,14 +1,15 @@
-//! Names of cells.
+//! Names of cells and reducers.
 
 ghost use Rattle.std.specs.Prelude.{◌≡◌, ◌<◌, ◌≤◌, ◌++◌, IfOk, OnOk, IsTrue, length, option_copied, string_bytes};
 ghost use Rattle.std.specs.List.{find};
 ghost use Rattle.std.specs.List.Sorted.{IsPartitionPoint};
 ghost use Rattle.text_words.specs.Declarations.{cells_of};
 ghost use Rattle.trace_text.specs.Shapes.{is_numbered, has_cell, name_in, name_of_cell};
+ghost use Rattle.trace_text.specs.Printing.{name_of_reducer};
 
 use std::alloc::{AllocError, Allocator};
 use std::fmt::Write;
-use text_words::Mem;
+use text_words::{Mem, Reducer};
 
 /// How many memories begin at this cell or before it.
 fn count_begun(mems: &[Mem], location: u32) -> usize
@@ -37,7 +38,7 @@ pub fn memory_at(mems: &[Mem], location: u32) -> Option<&Mem>
     }
 }
 
-/// Appends the name of a memory's cell with this index.
+/// Appends the name of a memory's cell with this index, as `x` or `a[3]`.
 pub fn put_name<A: Allocator>(out: &mut String<A>, mem: &Mem, index: u32) -> Result<(), AllocError>
     ensures { OnOk result (string_bytes out.new ≡ string_bytes out.old ++ name_in mem.now index) }
 {
@@ -46,6 +47,31 @@ pub fn put_name<A: Allocator>(out: &mut String<A>, mem: &Mem, index: u32) -> Res
         write!(out, "[{index}]")?;
     }
     Ok(())
+}
+
+/// Appends the name of the cell with this number. The memories are those of a trace or a program, or the first of them.
+pub fn put_cell_name<A: Allocator>(
+    out: &mut String<A>,
+    mems: &[Mem],
+    location: u32,
+) -> Result<(), AllocError>
+    requires numbered { IsTrue (is_numbered 0 mems.now) }
+    ensures { OnOk result (string_bytes out.new ≡ string_bytes out.old ++ name_of_cell mems.now location) }
+{
+    match memory_at(mems, location) {
+        Some(mem) => put_name(out, mem, location - mem.first),
+        None => Ok(()),
+    }
+}
+
+/// The name of the reducer with this number, or no word.
+pub fn reducer_name(reducers: &[Reducer], number: u32) -> &str
+    ensures { result.now ≡ name_of_reducer reducers.now number }
+{
+    match reducers.get(number as usize) {
+        Some(reducer) => reducer.name.as_str(),
+        None => "",
+    }
 }
 
 /// The name of a memory's cell with this index.

@@ -25,7 +25,7 @@ mod plain;
 mod print;
 mod trace;
 
-pub use cell::{cell_name, memory_at};
+pub use cell::{cell_name, memory_at, put_cell_name, put_name, reducer_name};
 pub use laws::{meaning_excludes_fault, meaning_or_fault, one_fault, one_meaning, plain_meaning};
 pub use pieces::BegunTrace;
 pub use place::{CELLS, end, length, monoid, reducer};

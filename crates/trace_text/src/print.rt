@@ -11,7 +11,7 @@ ghost use Rattle.trace_text.specs.Shapes.{is_numbered, name_of_cell};
 ghost use Rattle.trace_text.specs.Printing.{Entry, OfMemory, OfReducer, OfRequest, declarations, entry_text, name_of_reducer};
 ghost use Rattle.trace_text.specs.Printing.{spaced, operand_text, known_of, text_from, requests_text, PrintsEntry, StartsPast, TakesReducers};
 
-use crate::cell::{memory_at, put_name};
+use crate::cell::{put_cell_name, reducer_name};
 use crate::keyword::{keyword_for, keyword_word};
 use crate::trace::Trace;
 use packed_trace::{Iter, TraceLines};
@@ -45,20 +45,7 @@ pub fn put_cell<A: Allocator>(
     ensures { OnOk result (string_bytes out.new ≡ string_bytes out.old ++ 32 ∷ name_of_cell mems.now location) }
 {
     out.push_str(" ")?;
-    match memory_at(mems, location) {
-        Some(mem) => put_name(out, mem, location - mem.first),
-        None => Ok(()),
-    }
-}
-
-/// The name of the reducer with that number.
-fn reducer_name(reducers: &[Reducer], number: u32) -> &str
-    ensures { result.now ≡ name_of_reducer reducers.now number }
-{
-    match reducers.get(number as usize) {
-        Some(reducer) => reducer.name.as_str(),
-        None => "",
-    }
+    put_cell_name(out, mems, location)
 }
 
 /// Appends a space and the name of a cell, and a value.

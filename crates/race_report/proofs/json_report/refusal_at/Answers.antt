@@ -8,7 +8,7 @@ use Rattle.race_report.proofs.json_report.refusal_at.Goals as goal
 pub refusal_of-requires : goal.refusal_of-requires
 refusal_of-requires g c =
     let entries = c.args.entries.now.items in
-    let entry = c.get-2.result in
+    let entry = c.get.result in
     subst (λ (one : Entry). IsTellable (shape_known (contents c.args.program.now).known) (length entries) one)
-    (get_or_from_slice_get entries c.args.at entry entry c.get-2.ensures)
+    (get_or_from_slice_get entries c.args.at entry entry c.get.ensures)
     (c.requires.tellable c.args.at entry c.requires.there)
