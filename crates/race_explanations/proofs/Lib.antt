@@ -2,6 +2,7 @@ pub mod Telling
 pub mod Accounts
 pub mod Gathering
 pub mod Merging
+mod Placing
 mod TraceAdding
 pub mod FindingTexts
 mod Named
@@ -9,3 +10,4 @@ mod OrderedGroups
 mod OrderedFindings
 mod FoundLeads
 mod FoundGrouping
+mod Numbering

@@ -1,5 +1,5 @@
 -- What is told of a pair of places that raced in a trace, in pieces, so that pairs of several traces that are told alike are told once.
-use Rattle.std.specs.Prelude.{ℕ, ◌≡◌, ◌<◌, true, false, Option, Some, None, slice_set, slice_index_or, ◌+◌, ◌-◌, ◌^◌, ◌==◌, ◌&&◌, min, nat_lt, Bool, List, [], ◌∷◌, ◌++◌, codes, map, length, take, cond, if◌then◌else◌}
+use Rattle.std.specs.Prelude.{ℕ, ◌≡◌, true, false, ◌+◌, ◌-◌, ◌^◌, ◌==◌, ◌&&◌, min, nat_lt, Bool, List, [], ◌∷◌, ◌++◌, codes, map, length, take, cond, if◌then◌else◌}
 use Rattle.std.specs.Str.{bytes_eq}
 use Rattle.std.specs.Global.{Vec}
 use Rattle.std.specs.BTreeSet.{insert_key}
@@ -110,12 +110,6 @@ abbrev pub with_finding : List Finding → Finding → List Finding
 with_finding [] other = other ∷ []
 with_finding (one ∷ findings) other = cond (is_alike one other) (joined one other ∷ findings) (one ∷ with_finding findings other)
 
--- the place is that of the first finding that is told as another one
-abbrev pub IsPlaceAmong : List Finding → Finding → Option ℕ → Type 0
-IsPlaceAmong findings other (Some place) =
-    (place < length findings) × ((one : Finding) → with_finding findings other ≡ slice_set findings place (joined (slice_index_or findings place one) other))
-IsPlaceAmong findings other None = with_finding findings other ≡ findings ++ other ∷ []
-
 -- more findings, one after another
 abbrev pub with_findings : List Finding → List Finding → List Finding
 with_findings findings [] = findings
@@ -133,7 +127,7 @@ pub record Found : Type 0 where
 
 abbrev pub found_of : Findings → Found
 found_of findings = record {
-  findings = findings.list.items;
+  findings = findings.list;
   untold = findings.untold.items;
   refusals = findings.refusals;
   requests = findings.requests;
@@ -158,19 +152,28 @@ with_trace extent file entries findings count found = record {
   traces = added_up found.traces 1;
 }
 
+-- A trace among several: how its pairs are told, its number, and its entries.
+pub record NumberedTrace : Type 0 where
+  pub setting : Setting
+  pub number : ℕ
+  pub entries : List Entry
+
+abbrev pub numbered_trace : Setting → (number : ℕ) → List Entry → NumberedTrace
+numbered_trace setting number entries = record { setting = setting; number = number; entries = entries }
+
 -- Findings of the first of so many pairs were added.
-pub record AddsPairs (setting : Setting) (trace : ℕ) (entries : List Entry) (most : ℕ) (old new : List Finding) (count : ℕ) : Type 0 where
+pub record AddsPairs (trace : NumberedTrace) (most : ℕ) (old new : List Finding) (count : ℕ) : Type 0 where
   pub pairs : List Pair
-  pub are_pairs : ArePairs entries pairs
+  pub are_pairs : ArePairs trace.entries pairs
   pub count_is : count ≡ length pairs
   pub findings : List Finding
-  pub all_found : AllFound setting trace entries (take most pairs) findings
+  pub all_found : AllFound trace.setting trace.number trace.entries (take most pairs) findings
   pub new_is : new ≡ with_findings old findings
 
 -- Findings of all these pairs were added.
-pub record AddsAll (setting : Setting) (trace : ℕ) (entries : List Entry) (pairs : List Pair) (old new : List Finding) : Type 0 where
+pub record AddsAll (trace : NumberedTrace) (pairs : List Pair) (old new : List Finding) : Type 0 where
   pub findings : List Finding
-  pub all_found : AllFound setting trace entries pairs findings
+  pub all_found : AllFound trace.setting trace.number trace.entries pairs findings
   pub new_is : new ≡ with_findings old findings
 
 -- A trace was added.

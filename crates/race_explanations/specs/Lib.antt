@@ -3,6 +3,7 @@ pub mod Scenes
 pub mod Accounts
 pub mod Names
 pub mod Extents
+pub mod ToldPlaces
 pub mod Cases
 pub mod Titles
 pub mod Paths
@@ -13,6 +14,7 @@ pub mod SharedSyncs
 pub mod Leads
 pub mod FindingTexts
 pub mod FoundGroups
+pub mod GroupNumbers
 pub mod Explained
 pub mod Findings
 pub mod FoundSyncs

@@ -1,22 +1,25 @@
 //! What is told of a pair of places that raced in a trace, in pieces, so that pairs of several traces that are told alike are told once.
 
 ghost use Rattle.std.specs.Prelude.{◌≡◌, List, map, IfOk, OnOk};
+ghost use Rattle.std.specs.BTreeMap.{get};
 ghost use Rattle.model_histories.specs.declared.answer.Entry.{Entry};
 ghost use Rattle.race_pairs.specs.Digests.{IsDigest, most_of};
 ghost use Rattle.race_pairs.specs.Encounters.{IsRaceOf, AreRacesOf};
 ghost use Rattle.race_explanations.specs.Scenes.{setting_of};
-ghost use Rattle.race_explanations.specs.Findings.{kind_text, name_text, body_text, help_text, own_text, IsOfTrace, IsFinding, AddsAll, AddsPairs};
+ghost use Rattle.race_explanations.specs.Findings.{kind_text, name_text, body_text, help_text, own_text, IsOfTrace, IsFinding};
+ghost use Rattle.race_explanations.specs.Findings.{numbered_trace, AddsAll, AddsPairs};
+ghost use Rattle.race_explanations.specs.ToldPlaces.{told_of, told_cmp, IsToldAs};
 
 use crate::account::Account;
 use crate::case::course_of;
 use crate::lead::{Lead, lead_of};
-use crate::merge::join_finding;
+use crate::merge::FindingList;
 use crate::message::{push_earlier, push_help, push_own_help, push_refused, push_where};
 use crate::scene::Scene;
 use crate::title::{display_names, push_list, push_reason, sort_word};
 use race_pairs::{Encounter, Pair, Race, Reason};
 use std::alloc::{AllocError, Global};
-use std::collections::BTreeSet;
+use std::collections::{BTreeMap, BTreeSet};
 
 /// What is told of a pair of places, in pieces.
 pub struct Finding {
@@ -57,7 +60,67 @@ impl Drop for Finding {
     }
 }
 
+/// What findings that are joined are told as alike.
+#[derive(PartialEq, Eq, PartialOrd, Ord, Drop)]
+pub(crate) struct Told {
+    kind: Vec<u8>,
+    body: Vec<u8>,
+    sure_help: Vec<u8>,
+}
+
 impl Finding {
+    /// A copy of what it is told as.
+    pub(crate) fn copy_told(&self) -> Result<Told, AllocError>
+        ensures { IfOk result (IsToldAs self.now) }
+    {
+        Ok(Told {
+            kind: self.kind.clone()?,
+            body: self.body.clone()?,
+            sure_help: self.sure_help.clone()?,
+        })
+    }
+
+    /// The finding itself, and the place that is kept of what it is told as. Nothing is copied.
+    pub(crate) fn find_alike(self, places: &BTreeMap<Told, usize>) -> (Finding, Option<usize>)
+        ensures finding { result.0 ≡ self }
+        ensures place { result.1 ≡ get told_cmp places.now (told_of self) }
+    {
+        let Finding {
+            kind,
+            name,
+            names,
+            times,
+            body,
+            sure_help,
+            open_help,
+            own_help,
+            lead,
+        } = self;
+        let told = Told {
+            kind,
+            body,
+            sure_help,
+        };
+        let place = places.get(&told).copied();
+        let Told {
+            kind,
+            body,
+            sure_help,
+        } = told;
+        let finding = Finding {
+            kind,
+            name,
+            names,
+            times,
+            body,
+            sure_help,
+            open_help,
+            own_help,
+            lead,
+        };
+        (finding, place)
+    }
+
     /// What its places are told as, and how often it came.
     pub(crate) fn into_counted(self) -> (BTreeSet<Vec<u8>>, usize)
         ensures names { result.0 ≡ self.names }
@@ -193,16 +256,16 @@ fn add_all(
     scene: &Scene<'_, '_>,
     trace: usize,
     races: &[Race],
-    findings: &mut Vec<Finding>,
+    findings: &mut FindingList,
 ) -> Result<(), AllocError>
     requires races { (entries : List Entry) × AreRacesOf entries scene.now.digest.now races.now }
     requires trace { IsOfTrace (setting_of scene.now).origin }
     ensures { OnOk result ((entries : List Entry) → AreRacesOf entries scene.now.digest.now races.now →
-        AddsAll (setting_of scene.now) trace entries (map (λ race. race.pair) races.now) findings.old.items findings.new.items) }
+        AddsAll (numbered_trace (setting_of scene.now) trace entries) (map (λ race. race.pair) races.now) findings.old findings.new) }
 {
     for race in races {
         let finding = finding_of(alloc, scene, trace, race)?;
-        join_finding(findings, finding)?;
+        findings.join(finding)?;
     }
     Ok(())
 }
@@ -212,12 +275,12 @@ pub(crate) fn add_pairs(
     alloc: Global,
     scene: &Scene<'_, '_>,
     trace: usize,
-    findings: &mut Vec<Finding>,
+    findings: &mut FindingList,
 ) -> Result<usize, AllocError>
     requires digest { (entries : List Entry) × IsDigest entries scene.now.digest.now }
     requires trace { IsOfTrace (setting_of scene.now).origin }
     ensures { IfOk result (λ count. (entries : List Entry) → IsDigest entries scene.now.digest.now →
-        AddsPairs (setting_of scene.now) trace entries (most_of scene.now.digest.now) findings.old.items findings.new.items count) }
+        AddsPairs (numbered_trace (setting_of scene.now) trace entries) (most_of scene.now.digest.now) findings.old findings.new count) }
 {
     add_all(alloc, scene, trace, scene.digest.races(), findings)?;
     Ok(scene.digest.pair_count())

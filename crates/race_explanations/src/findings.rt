@@ -12,8 +12,9 @@ ghost use Rattle.race_explanations.specs.Findings.{requests_text, at_pairs, foun
 
 use crate::account::Account;
 use crate::extent::{Extent, most_pairs, most_shown};
-use crate::finding::{Finding, add_pairs};
+use crate::finding::add_pairs;
 use crate::found_told::tell_groups;
+use crate::merge::FindingList;
 use crate::settings::trace_scene;
 use race_pairs::Digest;
 use source_quotes::push_count;
@@ -25,7 +26,7 @@ use trace_text::Trace;
 /// What is found in several traces: pairs of places that raced, each of those that are told alike once. Neither the traces nor their
 /// entries are kept.
 pub struct Findings {
-    list: Vec<Finding>,
+    list: FindingList,
     /// Which traces had more pairs than are kept.
     untold: Vec<u8>,
     refusals: usize,
@@ -90,7 +91,7 @@ impl Findings {
         ensures { found_of result ≡ nothing_found }
     {
         Findings {
-            list: Vec::new(alloc),
+            list: FindingList::new(alloc),
             untold: Vec::new(alloc),
             refusals: 0,
             requests: 0,

@@ -1,11 +1,12 @@
 //! Findings of several traces, told together where they part at one spawn.
 
-ghost use Rattle.std.specs.Prelude.{◌≡◌, ◌++◌, ℕ, List, None, map, false, IfOk, OnOk, IsTrue};
+ghost use Rattle.std.specs.Prelude.{◌≡◌, ◌<◌, ◌++◌, [], ◌∷◌, ℕ, List, None, length, map, false, IfOk, OnOk, IsTrue};
 ghost use Rattle.std.specs.Global.{Vec as AnyVec};
 ghost use Rattle.std.specs.Option.{option_map};
 ghost use Rattle.model_histories.specs.declared.answer.Entry.{Entry};
 ghost use Rattle.race_explanations.specs.Settings.{Setting};
-ghost use Rattle.race_explanations.specs.FoundGroups.{lead_at, is_one_spawn, are_of_one_spawn, is_joined, joined_at, group_from, group_at, groups_of};
+ghost use Rattle.race_explanations.specs.FoundGroups.{lead_at, groups_of};
+ghost use Rattle.race_explanations.specs.GroupNumbers.{with_member, with_place, number_at, AreNumbersOf};
 ghost use Rattle.race_explanations.specs.FoundGroups.{line_of_lead, before_place, nearer_lead, nearer_place, first_place, is_behind, is_ordered_behind, is_ordered_place};
 ghost use Rattle.race_explanations.specs.FoundGroups.{leaves_open_place, is_round_lead, round_at, round_place, is_within_lead, is_sure_first, are_sure};
 ghost use Rattle.race_explanations.specs.FoundSyncs.{AreFoundIn, OneSyncOrdersFound};
@@ -13,6 +14,7 @@ ghost use Rattle.race_explanations.specs.FoundSyncs.{AreFoundIn, OneSyncOrdersFo
 use crate::finding::Finding;
 use crate::lead::Lead;
 use std::alloc::{AllocError, Global};
+use std::collections::BTreeMap;
 
 /// The spawn at which a finding parts.
 fn lead_in(finding: &Finding) -> Option<&Lead>
@@ -34,76 +36,56 @@ pub(crate) fn lead_at(findings: &[Finding], place: usize) -> Option<&Lead>
     }
 }
 
-/// Whether both part at spawns that are told alike.
-fn is_one_spawn(one: Option<&Lead>, other: Option<&Lead>) -> bool
-    ensures { result ≡ is_one_spawn (option_map (λ lead. lead.now) one.entry) (option_map (λ lead. lead.now) other.entry) }
+/// The number of the group whose findings part at the spawn that is told so.
+fn find_spawn(numbers: &BTreeMap<&[u8], usize>, spawn: &[u8]) -> Option<usize>
+    ensures { result ≡ number_at numbers.now spawn.now }
 {
-    match (one, other) {
-        (Some(one), Some(other)) => one.spawn.as_slice() == other.spawn.as_slice(),
-        _ => false,
-    }
+    numbers.get(spawn).copied()
 }
 
-/// Whether the findings at two places part at spawns that are told alike.
-fn are_of_one_spawn(findings: &[Finding], one: usize, other: usize) -> bool
-    ensures { result ≡ are_of_one_spawn findings.now one other }
-{
-    is_one_spawn(lead_at(findings, one), lead_at(findings, other))
-}
-
-/// Whether one of the findings before a place parts at the same spawn.
-fn is_joined(findings: &[Finding], place: usize) -> bool
-    ensures { result ≡ is_joined findings.now place place }
-{
-    let mut found = false;
-    for earlier in 0..place {
-        found |= are_of_one_spawn(findings, earlier, place);
-    }
-    found
-}
-
-/// Adds a place, where it is behind the first one and its finding parts at the same spawn.
-fn add_joined(
-    findings: &[Finding],
-    first: usize,
-    place: usize,
-    places: &mut Vec<usize>,
-) -> Result<(), AllocError>
-    ensures { OnOk result (places.new.items ≡ places.old.items ++ joined_at findings.now first place) }
-{
-    if first < place && are_of_one_spawn(findings, first, place) {
-        places.push(place)?;
-    }
-    Ok(())
-}
-
-/// The group that the finding at a place begins.
-fn group_from(alloc: Global, findings: &[Finding], first: usize) -> Result<Vec<usize>, AllocError>
-    ensures { IfOk result (λ places. places.items ≡ group_from findings.now first) }
+/// Adds a group of one finding.
+fn begin_group(alloc: Global, groups: &mut Vec<Vec<usize>>, place: usize) -> Result<(), AllocError>
+    ensures { OnOk result (map (λ (group : AnyVec ℕ). group.items) groups.new.items ≡
+        map (λ (group : AnyVec ℕ). group.items) groups.old.items ++ (place ∷ []) ∷ []) }
 {
     let mut places = Vec::new(alloc);
-    places.push(first)?;
-    for other in 0..findings.len() {
-        add_joined(findings, first, other, &mut places)?;
-    }
-    Ok(places)
+    places.push(place)?;
+    groups.push(places)?;
+    Ok(())
 }
 
-/// Adds the group that the finding at a place begins, where no earlier one parts at the same spawn.
-fn add_group(
+/// Adds a finding to the group with a number.
+fn join_group(groups: &mut Vec<Vec<usize>>, number: usize, place: usize) -> Result<(), AllocError>
+    requires { number < length groups.old.items }
+    ensures { OnOk result (map (λ (group : AnyVec ℕ). group.items) groups.new.items ≡
+        with_member (map (λ (group : AnyVec ℕ). group.items) groups.old.items) number place) }
+{
+    groups[number].push(place)?;
+    Ok(())
+}
+
+/// Adds the finding at a place: to the first group whose findings part at the same spawn, or as a group behind all.
+fn add_place<'a>(
     alloc: Global,
-    findings: &[Finding],
+    findings: &'a [Finding],
     place: usize,
     groups: &mut Vec<Vec<usize>>,
+    numbers: &mut BTreeMap<&'a [u8], usize>,
 ) -> Result<(), AllocError>
-    ensures { OnOk result (map (λ (group : AnyVec ℕ). group.items) groups.new.items ≡
-        map (λ (group : AnyVec ℕ). group.items) groups.old.items ++ group_at findings.now place) }
+    requires { AreNumbersOf findings.now (map (λ (group : AnyVec ℕ). group.items) groups.old.items) numbers.old }
+    ensures groups { OnOk result (map (λ (group : AnyVec ℕ). group.items) groups.new.items ≡
+        with_place findings.now (map (λ (group : AnyVec ℕ). group.items) groups.old.items) place) }
+    ensures numbers { OnOk result (AreNumbersOf findings.now (map (λ (group : AnyVec ℕ). group.items) groups.new.items) numbers.new) }
 {
-    if is_joined(findings, place) {
-        return Ok(());
+    let Some(lead) = lead_at(findings, place) else {
+        return begin_group(alloc, groups, place);
+    };
+    let spawn = lead.spawn.as_slice();
+    if let Some(number) = find_spawn(numbers, spawn) {
+        return join_group(groups, number, place);
     }
-    groups.push(group_from(alloc, findings, place)?)?;
-    Ok(())
+    numbers.insert(spawn, groups.len())?;
+    begin_group(alloc, groups, place)
 }
 
 /// The groups of findings that part at one spawn, by their places, in the order of their first findings. Errors where there is no memory.
@@ -111,8 +93,9 @@ pub fn group_findings(alloc: Global, findings: &[Finding]) -> Result<Vec<Vec<usi
     ensures { IfOk result (λ groups. map (λ (group : AnyVec ℕ). group.items) groups.items ≡ groups_of findings.now) }
 {
     let mut groups = Vec::new(alloc);
+    let mut numbers = BTreeMap::new(alloc);
     for place in 0..findings.len() {
-        add_group(alloc, findings, place, &mut groups)?;
+        add_place(alloc, findings, place, &mut groups, &mut numbers)?;
     }
     Ok(groups)
 }

@@ -42,7 +42,7 @@ pub use illegal::{
     Illegality, at_of, find_illegality, help_words, illegal_explanation, request_line, strand_of,
     title_words,
 };
-pub use merge::join_finding;
+pub use merge::FindingList;
 pub use message::help_of;
 pub use scene::{Origin, Scene};
 pub use settings::{program_scene, trace_scene};

@@ -7,7 +7,6 @@ ghost use Rattle.race_explanations.specs.Accounts.{Adds};
 ghost use Rattle.race_explanations.specs.Scenes.{setting_of};
 ghost use Rattle.race_explanations.specs.Titles.{sort_word, reason_words, name_of_place, noted_name, told_name, spaced_name, other_names};
 ghost use Rattle.race_explanations.specs.Titles.{listed_names, told_names, name_count, most_names, left_out, names_text, headline, heading, title_text};
-ghost use Rattle.trace_text.specs.Printing.{name_of_reducer};
 
 use crate::account::Account;
 use crate::scene::{Origin, Scene};
@@ -15,9 +14,8 @@ use access_table::word;
 use race_pairs::{Pair, Reason};
 use std::alloc::{AllocError, Global};
 use std::collections::BTreeSet;
-use text_words::Reducer;
 use trace_notes::Notes;
-use trace_text::{put_cell, put_word};
+use trace_text::{put_cell, put_word, reducer_name};
 
 /// The sort of a refusal.
 pub(crate) fn sort_word(reason: Reason) -> &'static str
@@ -43,16 +41,6 @@ pub(crate) fn push_reason(account: &mut Account, reason: Reason)
         }
         Reason::ViewRead => account.push_words("reads with other peers of"),
         Reason::Unset => account.push_words("nothing was put before into"),
-    }
-}
-
-/// The name of the reducer with this number.
-fn reducer_name(reducers: &[Reducer], number: u32) -> &str
-    ensures { result.now ≡ name_of_reducer reducers.now number }
-{
-    match reducers.get(number as usize) {
-        Some(reducer) => reducer.name.as_str(),
-        None => "",
     }
 }
 

@@ -12,7 +12,7 @@ kept_of findings races = record { findings = findings; races = map race_parts ra
 
 abbrev pub recorded_of : Records → Recorded
 recorded_of records = record {
-  kept = kept_of records.findings.items records.races.items;
+  kept = kept_of records.findings records.races.items;
   untold = map view records.untold.items;
   refusals = records.refusals;
   requests = records.requests;

@@ -24,7 +24,7 @@ use crate::race::{Race, race_of, race_value};
 use crate::value::text_value;
 use crate::warning::none_warned;
 use race_explanations::{
-    Extent, Finding, Scene, are_sure, finding_of, group_findings, join_finding, most_pairs,
+    Extent, Finding, FindingList, Scene, are_sure, finding_of, group_findings, most_pairs,
     trace_scene,
 };
 use race_pairs::{Digest, Encounter};
@@ -37,7 +37,7 @@ use trace_text::Trace;
 /// their entries are kept.
 pub struct Records {
     /// The findings that a person is told.
-    findings: Vec<Finding>,
+    findings: FindingList,
     /// Of each finding what is told of its first pair.
     races: Vec<Race>,
     /// The files of which not all pairs are kept.
@@ -63,17 +63,17 @@ impl Drop for Records {
 
 /// Adds a finding with its race: to the first that is told alike, or behind all.
 fn keep(
-    findings: &mut Vec<Finding>,
+    findings: &mut FindingList,
     races: &mut Vec<Race>,
     finding: Finding,
     race: Race,
 ) -> Result<(), AllocError>
-    ensures findings { OnOk result (findings.new.items ≡ with_finding findings.old.items finding) }
-    ensures races { OnOk result (map race_parts races.new.items ≡ with_race findings.old.items (with_finding findings.old.items finding)
+    ensures findings { OnOk result (findings.new ≡ with_finding findings.old finding) }
+    ensures races { OnOk result (map race_parts races.new.items ≡ with_race findings.old (with_finding findings.old finding)
         (map race_parts races.old.items) (race_parts race)) }
 {
     let before = findings.len();
-    join_finding(findings, finding)?;
+    findings.join(finding)?;
     if before < findings.len() {
         races.push(race)?;
     }
@@ -100,14 +100,14 @@ fn keep_all(
     scene: &Scene<'_, '_>,
     trace: usize,
     found: &[race_pairs::Race],
-    findings: &mut Vec<Finding>,
+    findings: &mut FindingList,
     races: &mut Vec<Race>,
 ) -> Result<(), AllocError>
     requires found { (entries : List Entry) × AreRacesOf entries scene.now.digest.now found.now }
     requires trace { IsOfTrace (setting_of scene.now).origin }
     ensures { OnOk result ((entries : List Entry) → AreRacesOf entries scene.now.digest.now found.now →
-        AddsKept (setting_of scene.now) trace entries (kept_of findings.old.items races.old.items) (map (λ race. race.pair) found.now)
-        (kept_of findings.new.items races.new.items)) }
+        AddsKept (setting_of scene.now) trace entries (kept_of findings.old races.old.items) (map (λ race. race.pair) found.now)
+        (kept_of findings.new races.new.items)) }
 {
     for race in found {
         let finding = finding_of(alloc, scene, trace, race)?;
@@ -284,7 +284,7 @@ impl Records {
         ensures { recorded_of result ≡ nothing_recorded }
     {
         Records {
-            findings: Vec::new(alloc),
+            findings: FindingList::new(alloc),
             races: Vec::new(alloc),
             untold: Vec::new(alloc),
             refusals: 0,

@@ -10,7 +10,7 @@ use Rattle.race_records.proofs.Keeping.{none_kept, race_kept}
 use Rattle.race_records.proofs.several.keep_all.Goals as goal
 
 pub loop-race-init : goal.loop-race-init
-loop-race-init c = λ entries are. none_kept (setting_of c.args.scene.now) c.args.trace entries (kept_of c.args.findings.now.items c.args.races.now.items)
+loop-race-init c = λ entries are. none_kept (setting_of c.args.scene.now) c.args.trace entries (kept_of c.args.findings.now c.args.races.now.items)
 
 pub loop-race-preserved : goal.loop-race-preserved
 loop-race-preserved c = λ entries are.

@@ -8,7 +8,7 @@ use Rattle.race_explanations.proofs.findings.Findings.tell_races.Goals as goal
 
 pub returns : goal.returns
 returns c =
-    let list = c.args.self.now.list.items in
+    let list = c.args.self.now.list in
     let most = most_pairs c.args.extent in
     let front : c.split_at.result.0.now ≡ take (min (length list) c.most_pairs-most.result) list = search rules in
     four_adds _ _ _ _ _ _ _ _ _ (these _ _ _ (found_groups_text (most_shown c.args.extent) (take most list)) c.tell_groups.ensures

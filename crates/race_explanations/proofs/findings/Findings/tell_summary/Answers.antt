@@ -6,5 +6,5 @@ use Rattle.race_explanations.proofs.findings.Findings.tell_summary.Goals as goal
 pub returns : goal.returns
 returns c =
     four_adds _ _ _ _ _ _ _ _ _ c.push_count.ensures
-    (these _ _ _ (at_pairs c.args.self.now.untold.items (length c.args.self.now.list.items)) c.tell_pairs.ensures (search rules)) c.push_words.ensures
+    (these _ _ _ (at_pairs c.args.self.now.untold.items (length c.args.self.now.list)) c.tell_pairs.ensures (search rules)) c.push_words.ensures
     c.tell_requests.ensures

@@ -12,7 +12,7 @@ use Rattle.race_records.proofs.several.Records.document.Goals as goal
 
 pub returns : goal.returns
 returns c =
-    let races = races_first c.most_pairs-most.result (most_pairs c.args.extent) c.args.self.now.findings.items c.split_at.result.0.now c.args.self.now.races.items c.split_at-2.result.0.now _
+    let races = races_first c.most_pairs-most.result (most_pairs c.args.extent) c.args.self.now.findings c.split_at.result.0.now c.args.self.now.races.items c.split_at-2.result.0.now _
     c.most_pairs-most.ensures (search rules) (search rules) c.in_ok-races.ensures in
     IfOk-weaker c.document_value.result _ (λ value. view value ≡ recorded_told c.args.extent (recorded_of c.args.self.now) (map string_bytes c.args.runs.now))
     (λ value is. told_together c.args.extent (recorded_of c.args.self.now) (map string_bytes c.args.runs.now) (summary_parts c.summary.result) _ (view value) _ _ (warned_parts c.none_warned.result) c.summary.ensures (search (rules, the_lemmas)) races
