@@ -229,12 +229,31 @@ fn no_command(alloc: Global) -> CliFault
     usage(alloc, "no command is given; see 'cilkcheck --help'")
 }
 
-/// A usage fault with the first line of the parser's text.
+/// The parser's tip which word may be meant, where its text has one.
+fn find_similar(text: &str) -> Option<&str> {
+    for line in text.lines() {
+        if let Some(tip) = line.strip_prefix("  tip: ") {
+            if tip.contains(" similar ") {
+                return Some(tip);
+            }
+        }
+    }
+    None
+}
+
+/// A usage fault with the first line of the parser's text, and behind it which word may be meant.
 fn complaint(alloc: Global, text: &str) -> CliFault
     ensures { IsUsageFault result }
 {
     let line = text.lines().next().unwrap_or("");
-    usage(alloc, line.strip_prefix("error: ").unwrap_or(line))
+    let line = line.strip_prefix("error: ").unwrap_or(line);
+    let Some(tip) = find_similar(text) else {
+        return usage(alloc, line);
+    };
+    match format!(in alloc; "{line}; {tip}") {
+        Ok(text) => usage(alloc, text.as_str()),
+        Err(_) => CliFault::Memory,
+    }
 }
 
 /// What the parser of the command line answers in place of a job: a text to show, or the first line of what is wrong.

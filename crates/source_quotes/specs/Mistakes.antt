@@ -33,6 +33,7 @@ header_title header.Comment = codes "a comment stands before the header"
 header_title header.Blank = codes "a blank line stands before the header"
 header_title header.Version = codes "the version of a text is 1 or 2"
 header_title header.Long = codes "the header has two words alone"
+header_title header.Source = codes "this text is C or C++, and no program or trace of `cilkcheck`"
 
 abbrev pub word_title : WordMistake → List ℕ
 word_title word.Other = codes "a word is missing, is too much, or is none that may stand in its place"

@@ -55,18 +55,32 @@ fn comment_at(line: &[u8]) -> Option<usize> {
     line.iter().position(|byte| *byte == b'#')
 }
 
-/// What is wrong with a first line that is no header.
-fn bad_header<B: Allocator>(scene: &Scene<'_, '_, B>) -> (HeaderMistake, Part) {
+/// Whether a text is C or C++: such a source includes headers.
+fn is_source<B: Allocator>(scene: &Scene<'_, '_, B>) -> bool {
+    let lines = scene.source.as_slice();
+    lines.iter().any(|line| line.starts_with(b"#include"))
+}
+
+/// What stands in place of a header.
+fn before_header<B: Allocator>(scene: &Scene<'_, '_, B>) -> (HeaderMistake, Part) {
     match scene.words {
-        ["cilk", "1" | "2", _, ..] => (HeaderMistake::Long, Part::Onward(2)),
-        ["cilk", _, ..] => (HeaderMistake::Version, Part::Word(1)),
-        ["cilk"] => (HeaderMistake::Version, Part::Statement),
         [_, ..] => (HeaderMistake::Other, Part::Statement),
         [] if scene.source.count() == 0 => (HeaderMistake::Empty, Part::Statement),
         [] => match comment_at(scene.source.line(1)) {
             Some(at) => (HeaderMistake::Comment, Part::Byte(at)),
             None => (HeaderMistake::Blank, Part::Statement),
         },
+    }
+}
+
+/// What is wrong with a first line that is no header.
+fn bad_header<B: Allocator>(scene: &Scene<'_, '_, B>) -> (HeaderMistake, Part) {
+    match scene.words {
+        ["cilk", "1" | "2", _, ..] => (HeaderMistake::Long, Part::Onward(2)),
+        ["cilk", _, ..] => (HeaderMistake::Version, Part::Word(1)),
+        ["cilk"] => (HeaderMistake::Version, Part::Statement),
+        _ if is_source(scene) => (HeaderMistake::Source, before_header(scene).1),
+        _ => before_header(scene),
     }
 }
 

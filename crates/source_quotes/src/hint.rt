@@ -39,6 +39,9 @@ fn header_help(mistake: HeaderMistake) -> &'static str {
         HeaderMistake::Blank => "begin with the line `cilk 1`, and leave out the blank one",
         HeaderMistake::Version => { "write `cilk 1`, or `cilk 2` for `bump`, `pfor` and `digits`" }
         HeaderMistake::Long => "put what follows on the next line",
+        HeaderMistake::Source => {
+            "compile it with `cilkcheck-cc` or `cilkcheck-c++`, run that program, and explain the trace that it writes"
+        }
     }
 }
 

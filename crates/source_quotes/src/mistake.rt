@@ -33,6 +33,8 @@ pub enum HeaderMistake {
     Version,
     /// More words than two.
     Long,
+    /// The text is a source of C or C++.
+    Source,
 }
 
 /// A word of another shape than its place wants, or a wrong number of words.
@@ -239,6 +241,7 @@ fn header_words(mistake: HeaderMistake) -> &'static str
         HeaderMistake::Blank => "a blank line stands before the header",
         HeaderMistake::Version => "the version of a text is 1 or 2",
         HeaderMistake::Long => "the header has two words alone",
+        HeaderMistake::Source => "this text is C or C++, and no program or trace of `cilkcheck`",
     }
 }
 

@@ -13,7 +13,7 @@ ghost use Rattle.command_streams.specs.Watched.{held, has_failed, is_delivered, 
 ghost use Rattle.tool_commands.specs.Programs.{fault_of_program};
 ghost use Rattle.command_streams.specs.Streams.{most_reads, StopsWriting};
 ghost use Rattle.command_streams.specs.ElisionText.{cell_line, cell_lines, memory_text, elision_text, HasShortName};
-ghost use Rattle.command_streams.specs.Tellings.{TellsMore};
+ghost use Rattle.command_streams.specs.Tellings.{telling, TellsMore};
 ghost use Rattle.tool_commands.specs.Elided.{ElidesContents, StopsElision, IsElided, HasElisionCause};
 ghost use Rattle.tool_commands.specs.Programs.{IsProgramFault};
 
@@ -112,8 +112,8 @@ fn tell_cells<A: Allocator, W: Write>(
     values: &[u64],
 )
     requires { HasShortName mem.now }
-    ensures { TellsMore (W.contents (held output.old)) (has_failed output.old) lines.old.text
-        (W.contents (held output.new)) (has_failed output.new) lines.new.text (cell_lines mem.now 0 values.now) }
+    ensures { TellsMore (telling (W.contents (held output.old)) (has_failed output.old) lines.old.text)
+        (telling (W.contents (held output.new)) (has_failed output.new) lines.new.text) (cell_lines mem.now 0 values.now) }
 {
     for (index, value) in values.iter().enumerate() {
         lines.tell_cell(output, mem, index, *value);
@@ -128,8 +128,8 @@ fn tell_memory<A: Allocator, W: Write>(
     values: &[u64],
 )
     requires { All HasShortName mems.now }
-    ensures { TellsMore (W.contents (held output.old)) (has_failed output.old) lines.old.text
-        (W.contents (held output.new)) (has_failed output.new) lines.new.text (memory_text mems.now values.now) }
+    ensures { TellsMore (telling (W.contents (held output.old)) (has_failed output.old) lines.old.text)
+        (telling (W.contents (held output.new)) (has_failed output.new) lines.new.text) (memory_text mems.now values.now) }
 {
     let mut rest = values;
     for mem in mems {
@@ -148,8 +148,8 @@ fn tell_elision<A: Allocator, W: Write>(
     requests: u32,
 )
     requires { All HasShortName mems.now }
-    ensures told { TellsMore (W.contents (held output.old)) (has_failed output.old) lines.old.text
-        (W.contents (held output.new)) (has_failed output.new) lines.new.text (elision_text mems.now values.now requests) }
+    ensures told { TellsMore (telling (W.contents (held output.old)) (has_failed output.old) lines.old.text)
+        (telling (W.contents (held output.new)) (has_failed output.new) lines.new.text) (elision_text mems.now values.now requests) }
     ensures none { lines.new.text ≡ [] }
 {
     tell_memory(output, lines, mems, values);

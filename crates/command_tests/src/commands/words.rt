@@ -307,7 +307,20 @@ const LINES: &[(&str, Asks<'static>)] = &[
         "elide f --trace g",
         Refused("unexpected argument '--trace' found"),
     ),
-    ("jugde", Refused("unrecognized subcommand 'jugde'")),
+    // A word that is none, and which may be meant.
+    (
+        "jugde",
+        Refused("unrecognized subcommand 'jugde'; a similar subcommand exists: 'judge'"),
+    ),
+    (
+        "expain f",
+        Refused("unrecognized subcommand 'expain'; a similar subcommand exists: 'explain'"),
+    ),
+    (
+        "explain f --serail",
+        Refused("unexpected argument '--serail' found; a similar argument exists: '--serial'"),
+    ),
+    ("find f", Refused("unrecognized subcommand 'find'")),
     ("", Refused("no command is given; see 'cilkcheck --help'")),
     // Words that ask for the help or the version.
     ("--help", Shows("Usage: cilkcheck [COMMAND]\n")),
