@@ -1,6 +1,8 @@
 use Rattle.std.proofs.Common.{rules, ◌≡◌, ◌<◌, ◌+◌, suc, drop, length, map, set, refl, sym, ap, arith, ◌∙◌}
 use Rattle.std.proofs.Math.Seq.{map-set_same}
-use Rattle.std.proofs.lemmas.List.{map-append, map-set, get_or-map, length-map, length_push}
+use Rattle.std.proofs.lemmas.List.{map-append, map-id, map-set, get_or-map, length-map, length_push}
+use Rattle.std.proofs.lemmas.Iterator.Adapters.{YieldsList-from_vec}
+use Rattle.std.proofs.lemmas.Iterator.Consumers.{YieldsList-end}
 use Rattle.crossbeam_deque.specs.Handles.{worker_deque, worker_view}
 use Rattle.steal_workers.specs.StealHandles.{Owner, deque_of, view_of, joined_each}
 use Rattle.steal_workers.proofs.Joins.{drop_head, joined_each-nil, joined_more}
@@ -45,3 +47,12 @@ loop-reach-preserved g c =
           (get_or-map worker_view owners at here (worker_view here) within ∙ sym (ap worker_view value))
           ∙ ap (joined_each _) (sym (map-append view_of c.loop-reach.yielded _));
     }
+
+pub returns-clause-deques : goal.returns-clause-deques
+returns-clause-deques g c = c.loop-reach.invariant.deques
+
+pub returns-clause-views : goal.returns-clause-views
+returns-clause-views g c =
+    let reaches = c.args.reaches.items in
+    let all = YieldsList-end (YieldsList-from_vec reaches c.into_iter-reach-iterator.ensures.into_iter_gives.0 (omega (arith, c.into_iter-reach-iterator.ensures.into_iter_gives.1, c.args.reaches.ok.0))) c.loop-reach.yielded c.loop-reach.reach-iterator c.loop-reach.yielded_by c.next.result c.next.new.self c.in-None.is c.next.ensures.steps in
+    c.loop-reach.invariant.views ∙ ap (λ given. joined_each (map worker_view c.args.owners.now.items) (map view_of given)) (sym (map-id c.loop-reach.yielded) ∙ all.0)

@@ -1,6 +1,8 @@
-use Rattle.std.proofs.Common.{rules, ◌++◌, ◌∷◌, [], map, ap, arith, ◌∙◌}
+use Rattle.std.proofs.Common.{rules, ◌++◌, ◌∷◌, [], map, sym, ap, refl, arith, ◌∙◌}
 use Rattle.std.specs.List.{sum_by}
-use Rattle.std.proofs.lemmas.List.{map-append}
+use Rattle.std.proofs.lemmas.List.{map-append, map-id}
+use Rattle.std.proofs.lemmas.Iterator.Adapters.{YieldsList-from_vec}
+use Rattle.std.proofs.lemmas.Iterator.Consumers.{YieldsList-end}
 use Rattle.std.proofs.lemmas.List.Sums.{sum_by_push}
 use Rattle.steal_workers.proofs.pool.hire_each.Goals as goal
 
@@ -15,3 +17,28 @@ loop-it-preserved g c =
       ends = ap (map (λ w. w.ends)) c.in_ok-push.ensures.items ∙ map-append (λ w. w.ends) hired _ ∙ ap (λ ends. ends ++ c.new.result.ends ∷ []) was.ends
           ∙ ap (λ it. c.loop-it.yielded ++ it ∷ []) c.new.ensures.ends;
     }
+
+pub loop-it-init : goal.loop-it-init
+loop-it-init g c = record {
+  parts = omega (arith, c.into_iter-it-iterator.ensures.into_iter_gives.1, c.requires);
+  seat = refl;
+  none = ap (sum_by (λ w. w.before)) c.new-hired.ensures.items;
+  ends = ap (map (λ w. w.ends)) c.new-hired.ensures.items;
+}
+
+pub split-requires : goal.split-requires
+split-requires g c = omega (arith, c.loop-it.invariant.parts, c.in-Some.ensures.steps)
+
+pub returns-in_err-push-clause-asked : goal.returns-in_err-push-clause-asked
+returns-in_err-push-clause-asked g c = c.split.ensures.left.0 ∙ c.loop-it.invariant.seat
+
+pub returns-clause-ends : goal.returns-clause-ends
+returns-clause-ends g c =
+    let all = YieldsList-end (YieldsList-from_vec c.args.ends.items c.into_iter-it-iterator.ensures.into_iter_gives.0 (omega (arith, c.into_iter-it-iterator.ensures.into_iter_gives.1, c.args.ends.ok.0))) c.loop-it.yielded c.loop-it.it-iterator c.loop-it.yielded_by c.next.result c.next.new.self c.in-None.is c.next.ensures.steps in
+    c.loop-it.invariant.ends ∙ (sym (map-id c.loop-it.yielded) ∙ all.0)
+
+pub returns-clause-before : goal.returns-clause-before
+returns-clause-before g c = c.loop-it.invariant.none
+
+pub returns-clause-asked : goal.returns-clause-asked
+returns-clause-asked g c = c.loop-it.invariant.seat

@@ -1,6 +1,6 @@
 use Rattle.std.proofs.Common.{rules, ◌≡◌, ◌++◌, ◌∷◌, [], map, sym, subst, ap, arith, ◌∙◌}
 use Rattle.std.specs.Prelude.{All}
-use Rattle.std.proofs.lemmas.List.{map-append, map-id}
+use Rattle.std.proofs.lemmas.List.{map-append, map-id, nil_from_length}
 use Rattle.std.proofs.lemmas.Iterator.Adapters.{YieldsList-from_vec}
 use Rattle.std.proofs.lemmas.Iterator.Consumers.{YieldsList-end}
 use Rattle.std.proofs.lemmas.List.Elements.{All-push}
@@ -33,3 +33,14 @@ returns-clause-stations g c =
 
 pub returns-clause-torn : goal.returns-clause-torn
 returns-clause-torn g c = c.loop-thread.invariant.torn
+
+pub loop-thread-init : goal.loop-thread-init
+loop-thread-init g c =
+    let none : c.args.back.items ≡ [] = nil_from_length c.args.back.items (omega (arith, c.requires.empty, c.args.back.ok.0)) in record {
+      room = omega (arith, c.requires.room, c.into_iter-thread-iterator.ensures.into_iter_gives.1);
+      back = ap stations_of none;
+      torn = subst (All TornAtJoin) (sym none) (λ k d low. absurd (omega (arith, low)));
+    }
+
+pub push_reserved-requires : goal.push_reserved-requires
+push_reserved-requires g c = omega (arith, c.loop-thread.invariant.room, c.in-Some.ensures.steps)
