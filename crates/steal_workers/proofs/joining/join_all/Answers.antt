@@ -1,5 +1,6 @@
-use Rattle.std.proofs.Common.{◌≡◌, map, sym, subst, ap, ◌∙◌}
+use Rattle.std.proofs.Common.{◌≡◌, [], map, sym, subst, ap, arith, ◌∙◌}
 use Rattle.std.proofs.lemmas.List.Elements.{All-head, All-tail, All-same}
+use Rattle.std.proofs.lemmas.Grind.{common_steps}
 use Rattle.std.specs.Vec.Iter.{into_iter_items}
 use Rattle.crossbeam_deque.specs.Handles.{worker_deque, worker_view}
 use Rattle.steal_workers.specs.StealHandles.{deque_of, views_of, joined_all, AllLeadTo}
@@ -28,3 +29,8 @@ loop-reaches-init g c =
       lead = subst (λ items. AllLeadTo (map worker_deque c.args.owners.items) (map (λ reaches. map deque_of reaches.items) items)) (sym given) c.requires;
       views = ap (λ items. joined_all (map worker_view c.args.owners.items) (map views_of items)) given;
     }
+
+pub returns : goal.returns
+returns g c =
+    let none : into_iter_items c.loop-reaches.reaches-iterator ≡ [] = grind (arith, common_steps) in
+    ap (λ items. joined_all (map worker_view c.loop-reaches.owners.items) (map views_of items)) (sym none) ∙ c.loop-reaches.invariant.views

@@ -16,6 +16,14 @@ loop-reach-init g c = record {
   views = sym (joined_each-nil _);
 }
 
+pub index_mut-requires : goal.index_mut-requires
+index_mut-requires g c =
+    let owners = c.loop-reach.owners.items in
+    let deque = deque_of c.in-Some.reach in
+    let left = sym (ap (map deque_of) c.in-Some.ensures.steps.0) ∙ c.loop-reach.invariant.rest in
+    let head = drop_head deque deque _ (map worker_deque owners) c.loop-reach.place left in
+    omega (arith, length-map owners (λ (o : Owner _). worker_deque o), head.0, c.loop-reach.owners.ok.0)
+
 pub give_back-requires : goal.give_back-requires
 give_back-requires g c =
     let owners = c.loop-reach.owners.items in

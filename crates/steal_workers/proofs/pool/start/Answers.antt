@@ -51,3 +51,18 @@ returns-clause-at_most g c = omega (arith, c.loop-worker.invariant.at_most)
 
 pub returns-clause-fewer : goal.returns-clause-fewer
 returns-clause-fewer g c refused = omega (arith, c.loop-worker.invariant.fewer refused)
+
+pub loop-worker-init : goal.loop-worker-init
+loop-worker-init g c =
+    let began = λ (h : PromisedHandle (Worker g.row.L.Denot g.row.A.Denot) (IdleWorker g.row.L.Denot g.row.A.Denot)). h.promise.0.value in
+    let made = c.in_ok-running.ensures in
+    let left = c.into_iter-worker-iterator.ensures.into_iter_gives.1 in record {
+      room = omega (arith, made.len, made.exact, c.len.ensures, left);
+      at_most = omega (arith, made.len, left);
+      hired = λ all. ap (map began) made.items;
+      some = ap (map began) made.items;
+      fewer = λ refused. absurd (cc);
+    }
+
+pub push_reserved-requires : goal.push_reserved-requires
+push_reserved-requires g c = omega (arith, c.loop-worker.invariant.room, c.in-Some.ensures.steps)

@@ -64,3 +64,6 @@ returns-in_err-reserve_call-clause-torn g c torn =
     let told : c.from_residual.result ≡ Err Memory = search rules in
     let same : Memory ≡ Torn = same_fault _ Memory Torn told torn in
     absurd (cc)
+
+pub returns-then-is_over-clause-torn : goal.returns-then-is_over-clause-torn
+returns-then-is_over-clause-torn g c torn = absurd (cc)
