@@ -1,2 +1,3 @@
 mod Listing
 mod Relating
+pub mod Objects
