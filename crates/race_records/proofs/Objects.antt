@@ -10,11 +10,12 @@ use Rattle.race_records.specs.Values.{list_told}
 pub no_member : (map : BTreeMap (String Global) Value) → map.entries ≡ [] → members_view map.entries ≡ no_members
 no_member map empty = ap members_view empty
 
-pub next_member : (key : List ℕ) {made told : Data} {before after members : Members} → before ≡ members → made ≡ told → after ≡ put key made before
-    → after ≡ put key told members
+pub next_member : (key : List ℕ) {made told : Data} {before after members : Members}
+    → before ≡ members → made ≡ told → after ≡ put key made before → after ≡ put key told members
 next_member key known is new = new ∙ ap₂ (put key) is known
 
-pub object_told : (map : BTreeMap (String Global) Value) {members : Members} → members_view map.entries ≡ members → view (Object map) ≡ object members
+pub object_told : (map : BTreeMap (String Global) Value) {members : Members}
+    → members_view map.entries ≡ members → view (Object map) ≡ object members
 object_told map known = view-Object map ∙ ap object known
 
 pub told_as_is : (items : List Data) → array (items_of items) ≡ list_told (λ item. item) items
