@@ -19,5 +19,6 @@ mod DigestStatuses
 mod Unnoted
 mod Explaining
 mod Replaying
+mod ReadPrograms
 mod Taking
 mod TraceTexts

@@ -7,9 +7,9 @@ use Rattle.model_histories.specs.declared.fault.GateFault.TheVariants.{Stopped a
 use Rattle.command_streams.specs.declared.fault.CliFault.{CliFault}
 use Rattle.command_streams.specs.declared.fault.CliFault.TheVariants.{Read, Write, TooLong, Trace, Shape, Illegal, Limit, Memory}
 use Rattle.tool_commands.specs.Declarations.{DeclareSame}
-use Rattle.text_words.specs.declared.fault.TextFault.TheVariants.{At}
-use Rattle.command_streams.specs.Streams.{StopsWriting, IsRead, IsFaultOf}
-use Rattle.command_streams.specs.Readings.{Reading, StopsReader}
+use Rattle.command_streams.specs.Streams.{StopsWriting, IsMeant, StopsTrace}
+use Rattle.command_streams.specs.Readings.{Reading}
+use Rattle.tool_commands.specs.Runs.{IsProgramRead}
 use Rattle.tool_commands.specs.Replays.{AreRead, HasProgram, StopsGate, fault_of_request, ReplaysContents, StopsReplay, HasReplayCause}
 
 request_cause : (program : Contents) (trace : TraceContents) (number : ℕ) (cause : GateFault) → DeclareSame program.known trace.known →
@@ -57,17 +57,23 @@ replay_cut program trace wrote writes contents trace_contents line status Write 
 }
 replay_cut program trace wrote writes contents trace_contents line status fault read replays stops = absurd stops
 
--- the trace is not read to its end
-pub trace_unread : (program trace : Reading) (wrote writes : Option (List ℕ)) (fault : CliFault) → HasProgram program → StopsReader trace fault →
-    HasReplayCause program trace wrote writes fault
-trace_unread program trace wrote writes Read first stops = tt
-trace_unread program trace wrote writes TooLong first stops = inr (first, stops)
-trace_unread program trace wrote writes Memory first stops = tt
-trace_unread program trace wrote writes fault first stops = absurd stops
+-- both were read
+pub both_read : (program trace : Reading) (contents : Contents) (trace_contents : TraceContents) → IsProgramRead program contents →
+    IsMeant trace.before trace.behind trace_contents → AreRead program trace contents trace_contents
+both_read program trace contents trace_contents first second = record {
+  program_text = first.text;
+  trace_text = second.text;
+  program_read = first.read;
+  trace_read = second.read;
+  program_means = first.means;
+  trace_means = second.means;
+}
 
--- the trace has a fault
-pub trace_faulty : (program trace : Reading) (wrote writes : Option (List ℕ)) (text : List ℕ) (fault : CliFault) → HasProgram program →
-    IsRead trace.before trace.behind text → IsFaultOf text fault → HasReplayCause program trace wrote writes fault
-trace_faulty program trace wrote writes text (Trace (At line why)) first read faulty = (first, record { text = text; read = read; faulty = faulty })
-trace_faulty program trace wrote writes text Memory first read faulty = tt
-trace_faulty program trace wrote writes text fault first read faulty = absurd faulty
+-- no trace is read
+pub no_trace : (program trace : Reading) (wrote writes : Option (List ℕ)) (fault : CliFault) → HasProgram program →
+    StopsTrace trace.before trace.behind fault → HasReplayCause program trace wrote writes fault
+no_trace program trace wrote writes Read first stops = tt
+no_trace program trace wrote writes TooLong first stops = inr (first, stops)
+no_trace program trace wrote writes (Trace why) first stops = (first, stops)
+no_trace program trace wrote writes Memory first stops = tt
+no_trace program trace wrote writes fault first stops = absurd stops

@@ -8,7 +8,8 @@ use Rattle.program_text.specs.Drafts.{Contents}
 use Rattle.program_text.specs.Faults.{TextFaults}
 use Rattle.model_histories.specs.Shapes.{Shape}
 use Rattle.command_streams.specs.declared.fault.CliFault.{CliFault}
-use Rattle.command_streams.specs.declared.fault.CliFault.TheVariants.{Program, Memory}
+use Rattle.command_streams.specs.declared.fault.CliFault.TheVariants.{Read, TooLong, Program, Memory}
+use Rattle.command_streams.specs.Readings.{Reading, StopsReader}
 use Rattle.command_streams.specs.Streams.{IsRead}
 
 -- ---- what a program declares
@@ -37,3 +38,11 @@ pub record IsFaultyProgram (before behind : Option (List ℕ)) (fault : CliFault
   pub text : List ℕ
   pub read : IsRead before behind text
   pub faulty : IsProgramFault text fault
+
+-- Why no program is read: reading stopped before the end, or the fault is that of the text.
+abbrev pub StopsProgram : Reading → CliFault → Type 0
+StopsProgram reader Read = Unit {0}
+StopsProgram reader TooLong = StopsReader reader TooLong
+StopsProgram reader (Program fault) = IsFaultyProgram reader.before reader.behind (Program fault)
+StopsProgram reader Memory = Unit {0}
+StopsProgram reader fault = ⊥

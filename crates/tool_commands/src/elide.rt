@@ -17,8 +17,8 @@ ghost use Rattle.command_streams.specs.Tellings.{telling, TellsMore};
 ghost use Rattle.tool_commands.specs.Elided.{ElidesContents, StopsElision, IsElided, HasElisionCause};
 ghost use Rattle.tool_commands.specs.Programs.{IsProgramFault};
 
-use crate::program::parse_program;
-use command_streams::{CliFault, LineBuffer, Watched, deliver, read_text};
+use crate::program::read_program;
+use command_streams::{CliFault, LineBuffer, Watched, deliver};
 use program_text::Program;
 use serial_elision::{ElideFault, Elided, elide};
 use std::alloc::{AllocError, Allocator};
@@ -208,8 +208,7 @@ pub fn elide_text<A: Allocator + Copy, R: Read, W: Write>(
     ensures devices { LeavesDevices result (has_failed program.new) output.old output.new }
     ensures reads { IsCalledAtMost most_reads (calls_of program.old) (calls_of program.new) }
 {
-    let text = read_text(alloc, program)?;
-    let program = parse_program(alloc, text)?;
+    let program = read_program(alloc, program)?;
     let elided = elide_program(alloc, &program, limit)?;
     let lines = LineBuffer::new(alloc)?;
     write_elision(

@@ -13,8 +13,8 @@ ghost use Rattle.command_streams.specs.Readings.{reading};
 use crate::ask::ask_all;
 use crate::declarations::declare_same;
 use crate::outcome::{outcome_line, outcome_of, outcome_status};
-use crate::program::parse_program;
-use command_streams::{CliFault, Watched, parse_trace, read_text, write_text};
+use crate::program::read_program;
+use command_streams::{CliFault, Watched, read_trace, write_text};
 use program_text::Program;
 use race_gate::{Gate, GateFault};
 use std::alloc::Allocator;
@@ -94,19 +94,11 @@ pub fn replay_text<A: Allocator + Copy, P: Read, T: Read, W: Write>(
     ensures program_reads { IsCalledAtMost most_reads (calls_of program.old) (calls_of program.new) }
     ensures trace_reads { IsCalledAtMost most_reads (calls_of trace.old) (calls_of trace.new) }
 {
-    let program_bytes = match read_text(alloc, program) {
-        Ok(text) => text,
-        Err(fault) => return Err(fault),
-    };
-    let program = match parse_program(alloc, program_bytes) {
+    let program = match read_program(alloc, program) {
         Ok(program) => program,
         Err(fault) => return Err(fault),
     };
-    let trace_bytes = match read_text(alloc, trace) {
-        Ok(text) => text,
-        Err(fault) => return Err(fault),
-    };
-    let trace = match parse_trace(alloc, trace_bytes) {
+    let trace = match read_trace(alloc, trace) {
         Ok(trace) => trace,
         Err(fault) => return Err(fault),
     };

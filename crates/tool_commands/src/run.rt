@@ -15,8 +15,8 @@ ghost use Rattle.command_streams.specs.Readings.{reading};
 ghost use Rattle.tool_commands.specs.Runs.{IsWholeRun, fault_of_run, run_line, IsRunFault, TellsRun, IsRan, HasRunCause};
 
 use crate::outcome::{Outcome, outcome_of, refusal_status, whole_status};
-use crate::program::parse_program;
-use command_streams::{CliFault, Watched, read_text, write_text};
+use crate::program::read_program;
+use command_streams::{CliFault, Watched, write_text};
 use locked_replay::{
     Ask, LockedGate, RunFault, Seat, Whole, WorkerLog, check_run, gather, open_gate,
 };
@@ -335,9 +335,8 @@ pub(crate) fn serial_run<A: Allocator + Copy>(
     }
 }
 
-/// A finished run of the program by so many workers, of at most `limit` entries.
+/// A finished run of the program by so many workers, of at most `limit` entries, or the fault of the command.
 pub(crate) fn whole_run<
-    L: Ledger + Send + Sync,
     A: Allocator + Copy + Send + Sync,
     D: Door + Sync,
     R: Threads + Wait + Sync,
@@ -348,19 +347,16 @@ pub(crate) fn whole_run<
     workers: usize,
     door: &D,
     limit: u32,
-    blank: Blank,
-) -> Result<Whole<A>, RunFault>
+) -> Result<Whole<A>, CliFault>
     requires workers { (0 < workers) × (workers ≤ 64) }
     requires limit { limit ≤ most_entries }
-    requires name { blank.name ≡ L.name }
-    requires all { blank.parts ≡ L.parts }
-    requires parts { blank.parts ≡ 64 }
     ensures whole { IfOk result (IsWholeRun program.now limit) }
-    ensures fault { IfErr result (λ fault. IsRunFault (contents program.now) limit (fault_of_run fault)) }
+    ensures fault { IfErr result (IsRunFault (contents program.now) limit) }
 {
-    match some_run::<L, A, D, R>(rt, alloc, program, workers, door, limit, blank) {
+    let blank = Blank::new(PARTS);
+    match some_run::<Brand, A, D, R>(rt, alloc, program, workers, door, limit, blank) {
         Ok(whole) => Ok(whole),
-        Err(cut) => Err(cut.fault),
+        Err(cut) => Err(fault_of(cut.fault)),
     }
 }
 
@@ -395,18 +391,7 @@ fn run_and_report<A: Allocator + Copy + Send + Sync, D: Door + Sync, R: Threads 
     ensures ok { IfOk result (λ told. TellsRun (contents program.now) limit told.0.items told.1) }
     ensures fault { IfErr result (IsRunFault (contents program.now) limit) }
 {
-    let whole = match whole_run::<Brand, A, D, R>(
-        rt,
-        alloc,
-        program,
-        workers,
-        door,
-        limit,
-        Blank::new(PARTS),
-    ) {
-        Ok(whole) => whole,
-        Err(fault) => return Err(fault_of(fault)),
-    };
+    let whole = whole_run(rt, alloc, program, workers, door, limit)?;
     let line = report_line(heap, program, &whole)?;
     Ok((line, whole_status(&whole)))
 }
@@ -448,8 +433,7 @@ pub fn run_text<
     ensures devices { LeavesDevices result (has_failed program.new) output.old output.new }
     ensures reads { IsCalledAtMost most_reads (calls_of program.old) (calls_of program.new) }
 {
-    let text = read_text(heap, program)?;
-    let program = parse_program(heap, text)?;
+    let program = read_program(heap, program)?;
     let (line, status) = run_and_report(rt, alloc, heap, &program, workers, door, limit)?;
     write_text(output, line.as_slice())?;
     Ok(status)

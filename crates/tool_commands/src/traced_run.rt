@@ -2,6 +2,10 @@
 
 ghost use Rattle.std.specs.Prelude.{◌≡◌, ◌↔◌, ◌<◌, ◌≤◌, ◌≢◌, ◌+◌, true, false, IfOk, IfErr, OnOk, IsErrOf, IsTrue};
 ghost use Rattle.std.specs.Io.KnownBytes.{Appends};
+ghost use Rattle.trace_text.specs.Grammar.{TextMeans};
+ghost use Rattle.trace_text.specs.Printing.{plain_text};
+ghost use Rattle.run_traces.specs.Traces.{trace_contents};
+ghost use Rattle.run_traces.specs.Laws.{IsRunOf};
 ghost use Rattle.program_text.specs.Programs.{contents};
 ghost use Rattle.model_histories.specs.Shapes.{most_entries};
 ghost use Rattle.command_streams.specs.Devices.{LeavesDevices};
@@ -13,16 +17,15 @@ ghost use Rattle.tool_commands.specs.Traced.{writing, TellsTraced, IsReadTraced,
 ghost use Rattle.tool_commands.specs.Traced.{HasTracedCause, TellsTrace, IsTraceWritten, HasTraceCause};
 
 use crate::outcome::whole_status;
-use crate::program::parse_program;
-use crate::run::{Door, PARTS, fault_of, report_line, whole_run};
-use command_streams::{CliFault, Watched, read_text, write_text};
+use crate::program::read_program;
+use crate::run::{Door, report_line, whole_run};
+use command_streams::{CliFault, Watched, write_text};
+use locked_replay::Whole;
 use program_text::Program;
 use run_traces::trace_of;
-use std::alloc::Global;
+use std::alloc::{AllocError, Global};
 use std::io::{Read, Write};
-use std::marker::Brand;
 use std::sync::Wait;
-use std::sync::ledger::Blank;
 use std::thread::Threads;
 
 /// What is told of a run.
@@ -34,6 +37,16 @@ pub struct TracedRun {
     pub trace: Vec<u8>,
     /// The exit status: 1 where an entry is refused or unset, else 0.
     pub status: u8,
+}
+
+/// The text of the trace of a run.
+fn trace_text(alloc: Global, program: &Program<Global>, whole: &Whole) -> Result<Vec<u8>, AllocError>
+    ensures plain { IfOk result (λ text. text.items ≡ plain_text (trace_contents (contents program.now) whole.now.entries.items)) }
+    ensures means { IfOk result (λ text. IsRunOf (contents program.now) whole.now.entries.items →
+        ∥ TextMeans text.items (trace_contents (contents program.now) whole.now.entries.items) ∥₁) }
+{
+    let entries = whole.entries.to_vec(alloc)?;
+    trace_of(alloc, program, entries.as_slice())
 }
 
 /// Runs a program by so many workers, which ask a gate with this limit on the entries of its history, and tells the run: its report, and
@@ -51,21 +64,9 @@ pub fn trace_run<D: Door + Sync, R: Threads + Wait + Sync>(
     ensures ok { IfOk result (λ told. TellsTraced (contents program.now) limit told.line.items told.trace.items told.status) }
     ensures fault { IfErr result (IsRunFault (contents program.now) limit) }
 {
-    let whole = match whole_run::<Brand, Global, D, R>(
-        rt,
-        alloc,
-        program,
-        workers,
-        door,
-        limit,
-        Blank::new(PARTS),
-    ) {
-        Ok(whole) => whole,
-        Err(fault) => return Err(fault_of(fault)),
-    };
+    let whole = whole_run(rt, alloc, program, workers, door, limit)?;
     let line = report_line(alloc, program, &whole)?;
-    let entries = whole.entries.to_vec(alloc)?;
-    let trace = trace_of(alloc, program, entries.as_slice())?;
+    let trace = trace_text(alloc, program, &whole)?;
     let status = whole_status(&whole);
     Ok(TracedRun {
         line,
@@ -93,8 +94,7 @@ pub fn trace_run_of_text<D: Door + Sync, P: Read, R: Threads + Wait + Sync>(
     ensures read_failed { IsErrOf result CliFault.Read ↔ IsTrue (has_failed program.new) }
     ensures reads { IsCalledAtMost most_reads (calls_of program.old) (calls_of program.new) }
 {
-    let text = read_text(alloc, program)?;
-    let program = parse_program(alloc, text)?;
+    let program = read_program(alloc, program)?;
     trace_run(rt, alloc, &program, workers, door, limit)
 }
 
@@ -201,20 +201,8 @@ fn run_and_trace<D: Door + Sync, R: Threads + Wait + Sync>(
     ensures ok { IfOk result (λ told. TellsTrace (contents program.now) limit told.0.items told.1) }
     ensures fault { IfErr result (IsRunFault (contents program.now) limit) }
 {
-    let whole = match whole_run::<Brand, Global, D, R>(
-        rt,
-        alloc,
-        program,
-        workers,
-        door,
-        limit,
-        Blank::new(PARTS),
-    ) {
-        Ok(whole) => whole,
-        Err(fault) => return Err(fault_of(fault)),
-    };
-    let entries = whole.entries.to_vec(alloc)?;
-    let text = trace_of(alloc, program, entries.as_slice())?;
+    let whole = whole_run(rt, alloc, program, workers, door, limit)?;
+    let text = trace_text(alloc, program, &whole)?;
     Ok((text, whole_status(&whole)))
 }
 
@@ -240,8 +228,7 @@ pub fn write_run_trace<D: Door + Sync, P: Read, W: Write, R: Threads + Wait + Sy
     ensures devices { LeavesDevices result (has_failed program.new) output.old output.new }
     ensures reads { IsCalledAtMost most_reads (calls_of program.old) (calls_of program.new) }
 {
-    let text = read_text(alloc, program)?;
-    let program = parse_program(alloc, text)?;
+    let program = read_program(alloc, program)?;
     let (trace, status) = run_and_trace(rt, alloc, &program, workers, door, limit)?;
     write_text(output, trace.as_slice())?;
     Ok(status)

@@ -4,5 +4,5 @@ use Rattle.tool_commands.proofs.traced_run.trace_run.Goals as goal
 
 pub returns-clause-ok : goal.returns-clause-ok
 returns-clause-ok g c =
-    traced_tells c.args.program.now c.args.limit _ _ _ _ _ c.in-Ok.ensures.whole.run c.in-Ok.ensures.whole.within (omega (arith, c.in-Ok.ensures.whole.within, c.requires.limit)) c.in-Ok.ensures.whole.memory
+    traced_tells c.args.program.now c.args.limit _ _ _ _ _ c.in_ok-whole.ensures.whole.run c.in_ok-whole.ensures.whole.within (omega (arith, c.in_ok-whole.ensures.whole.within, c.requires.limit)) c.in_ok-whole.ensures.whole.memory
     (search rules) (search rules) (search rules) (search rules)

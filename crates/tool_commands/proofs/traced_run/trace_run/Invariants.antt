@@ -1,4 +1,0 @@
-use Rattle.tool_commands.proofs.traced_run.trace_run.Given as goal
-
-abbrev pub ghosts-whole_run : goal.ghosts-whole_run
-ghosts-whole_run g a = record { name = a.blank.name; parts = a.blank.parts }
