@@ -1,6 +1,6 @@
 //! From a job to the exit status of the process.
 
-ghost use Rattle.std.specs.Prelude.{◌≡◌, ◌↔◌, ◌<◌, ◌≤◌, Some, None, true, false, IfOk, IfErr, OnOk, IsErr, IsErrOf, IsTrue};
+ghost use Rattle.std.specs.Prelude.{◌≡◌, ◌↔◌, ◌<◌, ◌≤◌, Some, None, true, false, IfOk, IfErr, OnOk, IsErr, IsErrOf, IsTrue, Option, List, ℕ};
 ghost use Rattle.model_histories.specs.Shapes.{most_entries};
 ghost use Rattle.std.specs.String.{string_bytes};
 ghost use Rattle.std.specs.Io.KnownBytes.{Appends};
@@ -9,6 +9,8 @@ ghost use Rattle.command_streams.specs.Streams.{StopsWriting};
 ghost use Rattle.command_streams.specs.Devices.{LeavesDevices};
 ghost use Rattle.command_streams.specs.Watched.{held, has_failed, is_delivered};
 ghost use Rattle.tool_commands.specs.Performed.{form_of, rendering_of, extent_of, EndsJob, IsPaintedBy, IsRecorded};
+ghost use Rattle.command_streams.specs.Readings.{reading};
+ghost use Rattle.tool_commands.specs.Replays.{IsReplayed, HasReplayCause};
 ghost use Rattle.tool_commands.specs.Traced.{writing};
 ghost use Rattle.tool_commands.specs.Performed.{IsRecordedFirst, BarsTrace, IsAlone, status_of_answer};
 
@@ -343,6 +345,34 @@ fn record_file<H: Host, W: Write, R: Threads + Wait + Sync>(
     answer
 }
 
+/// Replays the trace in a file as a run of the program on standard input.
+fn replay_input<H: Host, W: Write>(
+    alloc: Global,
+    host: &mut Watched<H>,
+    trace: &String,
+    output: &mut Watched<W>,
+) -> Result<u8, CliFault>
+    requires host { has_failed host.old ≡ false }
+    requires writer { has_failed output.old ≡ false }
+    ensures done { IfOk result (λ status. (program_behind : Option (List ℕ)) × (trace_behind : Option (List ℕ)) ×
+        IsReplayed (reading (H.sources (held host.old)).input program_behind)
+        (reading ((H.sources (held host.old)).file (string_bytes trace.now)) trace_behind)
+        (W.contents (held output.old)) (W.contents (held output.new)) status) }
+    ensures fault { IfErr result (λ fault. (program_behind : Option (List ℕ)) × (trace_behind : Option (List ℕ)) ×
+        HasReplayCause (reading (H.sources (held host.old)).input program_behind)
+        (reading ((H.sources (held host.old)).file (string_bytes trace.now)) trace_behind)
+        (W.contents (held output.old)) (W.contents (held output.new)) fault) }
+    ensures lacking { H.lacks (held host.old) (string_bytes trace.now) → IsErrOf result CliFault.Read }
+    ensures devices { LeavesDevices result (has_failed host.new) output.old output.new }
+{
+    let mut entries = host.open(trace.as_str())?;
+    let mut program = host.input();
+    let answer = replay_text(alloc, &mut program, &mut entries, output);
+    host.note(&program);
+    host.note(&entries);
+    answer
+}
+
 /// Replays the trace in one file as a run of the program in another. Both are opened before either is read.
 fn replay_files<H: Host, W: Write>(
     alloc: Global,
@@ -358,12 +388,7 @@ fn replay_files<H: Host, W: Write>(
     ensures devices { LeavesDevices result (has_failed host.new) output.old output.new }
 {
     if file.as_str() == INPUT {
-        let mut entries = host.open(trace.as_str())?;
-        let mut program = host.input();
-        let answer = replay_text(alloc, &mut program, &mut entries, output);
-        host.note(&program);
-        host.note(&entries);
-        return answer;
+        return replay_input(alloc, host, trace, output);
     }
     let mut program = host.open(file.as_str())?;
     let mut entries = open_named(host, trace.as_str())?;

@@ -3,6 +3,7 @@ use Rattle.std.proofs.lemmas.Result.{err_from_is_err_and}
 use Rattle.std.specs.Io.KnownBytes.{Appends}
 use Rattle.program_text.specs.Programs.{contents}
 use Rattle.command_streams.specs.Watched.{held}
+use Rattle.command_streams.specs.Readings.{reading}
 use Rattle.command_streams.specs.Streams.{StopsWriting}
 use Rattle.command_streams.proofs.Failing.{write_alone}
 use Rattle.tool_commands.proofs.TracedCauses.{trace_stops, trace_cut, trace_written}
@@ -12,23 +13,23 @@ use Rattle.tool_commands.proofs.traced_run.write_run_trace.Goals as goal
 pub returns-in_err-program-clause-fault : goal.returns-in_err-program-clause-fault
 returns-in_err-program-clause-fault g c =
     let gone = err_from_is_err_and c.from_residual.result c.from_residual.ensures.1 in
-    rw (gone.1, gone.2) (no_program_to_trace _ _ _ c.args.limit c.in_err-program.field-0.0 c.in_err-program.ensures.fault)
+    rw (gone.1, gone.2) (no_program_to_trace (reading (g.P.Read.remaining (held c.args.program.now)) (g.P.Read.remaining (held c.read_program.new.reader))) _ _ c.args.limit c.in_err-program.field-0.0 c.in_err-program.ensures.fault)
 
 pub returns-clause-answered : goal.returns-clause-answered
 returns-clause-answered g c =
-    trace_written _ _ _ c.args.limit (contents c.in_ok-program.program) _ _ c.in_ok-program.ensures.ok c.in_ok-trace.ensures.ok
+    trace_written (reading (g.P.Read.remaining (held c.args.program.now)) (g.P.Read.remaining (held c.read_program.new.reader))) _ _ c.args.limit (contents c.in_ok-program.program) _ _ c.in_ok-program.ensures.ok c.in_ok-trace.ensures.ok
     (subst (λ (text : List ℕ). Appends (g.W.Write.contents (held c.args.output.now)) (g.W.Write.contents (held c.write_text.new.output)) text)
     c.as_slice.ensures.value c.in_ok-write_text.ensures.ok)
 
 pub returns-in_err-trace-clause-fault : goal.returns-in_err-trace-clause-fault
 returns-in_err-trace-clause-fault g c =
     let gone = err_from_is_err_and c.from_residual-in_err-trace.result c.from_residual-in_err-trace.ensures.1 in
-    rw (gone.1, gone.2) (trace_stops _ _ _ c.args.limit (contents c.in_ok-program.program) c.in_err-trace.field-0.0 c.in_ok-program.ensures.ok c.in_err-trace.ensures.fault)
+    rw (gone.1, gone.2) (trace_stops (reading (g.P.Read.remaining (held c.args.program.now)) (g.P.Read.remaining (held c.read_program.new.reader))) _ _ c.args.limit (contents c.in_ok-program.program) c.in_err-trace.field-0.0 c.in_ok-program.ensures.ok c.in_err-trace.ensures.fault)
 
 pub returns-in_err-write_text-clause-fault : goal.returns-in_err-write_text-clause-fault
 returns-in_err-write_text-clause-fault g c =
     let gone = err_from_is_err_and c.from_residual-in_err-write_text.result c.from_residual-in_err-write_text.ensures.1 in
-    rw (gone.1, gone.2) (trace_cut _ _ _ c.args.limit _ _ _ c.in_err-write_text.field-0.0 c.in_ok-program.ensures.ok c.in_ok-trace.ensures.ok
+    rw (gone.1, gone.2) (trace_cut (reading (g.P.Read.remaining (held c.args.program.now)) (g.P.Read.remaining (held c.read_program.new.reader))) _ _ c.args.limit _ _ _ c.in_err-write_text.field-0.0 c.in_ok-program.ensures.ok c.in_ok-trace.ensures.ok
     (subst (λ (text : List ℕ). StopsWriting (g.W.Write.contents (held c.args.output.now)) (g.W.Write.contents (held c.write_text.new.output)) text c.in_err-write_text.field-0.0)
     c.as_slice.ensures.value c.in_err-write_text.ensures.fault))
 
