@@ -1,13 +1,13 @@
 -- The traces in several files, one after another.
-use Rattle.std.proofs.Common.{◌≡◌, ℕ, ◌+◌, ◌<◌, Option, Some, None, List, [], ◌∷◌, ◌++◌, length, take, drop, map, get_or, inr, sym, ap, subst, ◌∙◌}
+use Rattle.std.proofs.Common.{◌≡◌, ℕ, ◌+◌, ◌<◌, Option, Some, None, List, [], ◌∷◌, ◌++◌, length, Err, IsErrOf, refl, take, drop, map, get_or, inr, sym, ap, subst, ◌∙◌}
 use Rattle.std.specs.Global.{Vec}
 use Rattle.std.proofs.lemmas.List.{take_more, drop_more, take-append-drop, map-append}
 use Rattle.command_streams.specs.declared.fault.CliFault.{CliFault}
-use Rattle.command_streams.specs.declared.fault.CliFault.TheVariants.{Read, Memory}
+use Rattle.command_streams.specs.declared.fault.CliFault.TheVariants.{Read, Write, Memory}
 use Rattle.command_streams.specs.Readings.{reading}
-use Rattle.command_streams.specs.Streams.{IsRead}
+use Rattle.command_streams.specs.Streams.{IsRead, StopsWriting}
 use Rattle.tool_commands.specs.Together.{Together, TakesReading, StopsTaking}
-use Rattle.tool_commands.specs.Several.{Style, manner_in, AreTaken, more, TellsSeveral, StopsSeveral}
+use Rattle.tool_commands.specs.Several.{Style, manner_in, AreTaken, more, TellsSeveral, StopsSeveral, HasSeveralCause}
 use Rattle.tool_commands.specs.Performed.{lacks_first}
 
 names_at : {X : Type 0} (name : X → List ℕ) (items : List X) (index : ℕ) (one : X) (file : List ℕ) → index < length items → one ≡ get_or items index one → file ≡ name one →
@@ -98,3 +98,23 @@ lacks_more name items index one file lacks now first below read called same apar
     opened (subst (λ h. lacks h file) (sym same)
     (lacks_here (lacks first) (map name (take index items)) file [] apart
     (subst (λ (names : List (List ℕ)). lacks_first (lacks first) names) (sym (names_so_far name items index one file below read called)) is)))
+
+-- nothing is told, and so nothing is written
+pub untold : {T : Type 0} (style : Style) (files : List ℕ → Option (List ℕ)) (names : List (List ℕ)) (wrote writes : Option (List ℕ)) (fault : CliFault) →
+    (IsErrOf {T = T} (Err fault) Write → ⊥) → StopsSeveral style files names fault → HasSeveralCause style files names wrote writes fault
+untold style files names wrote writes Write other stops = absurd (other refl)
+untold style files names wrote writes fault other stops = stops
+
+-- only a part of what is told could be written
+pub told_cut : (style : Style) (files : List ℕ → Option (List ℕ)) (names : List (List ℕ)) (wrote writes : Option (List ℕ)) (told : List ℕ) (status : ℕ) (fault : CliFault) →
+    TellsSeveral style files names told status → StopsWriting wrote writes told fault → HasSeveralCause style files names wrote writes fault
+told_cut style files names wrote writes told status Write tells stops = record {
+  told = told;
+  status = status;
+  part = stops.0;
+  rest = stops.1;
+  tells = tells;
+  written = stops.2;
+  prefix = stops.3;
+}
+told_cut style files names wrote writes told status fault tells stops = absurd stops

@@ -1,9 +1,12 @@
-use Rattle.std.proofs.Common.{rules, arith, ◌≡◌, ◌<◌, ◌∙◌, ℕ, [], Option, length, get_or, ap, refl, sym, subst}
+use Rattle.std.proofs.Common.{rules, arith, ◌≡◌, ◌<◌, ◌∙◌, ℕ, [], Option, Err, length, get_or, ap, refl, sym, subst}
 use Rattle.std.specs.Global.{Vec}
 use Rattle.std.specs.String.{string_bytes}
 use Rattle.std.proofs.lemmas.Result.{err_from_is_err_and}
 use Rattle.std.proofs.lemmas.Grind.{common_steps}
 use Rattle.command_streams.specs.Watched.{held}
+use Rattle.command_streams.specs.declared.fault.CliFault.{CliFault}
+use Rattle.command_streams.specs.declared.fault.CliFault.TheVariants.{Write}
+use Rattle.command_streams.proofs.Failing.{step_failed}
 use Rattle.command_streams.specs.Readings.{reading}
 use Rattle.tool_commands.specs.Together.{Together, together_of, TakesReading}
 use Rattle.tool_commands.specs.Several.{style, manner_in, AreTaken, none}
@@ -81,3 +84,16 @@ returns-in-Some-clause-lacking g c = λ lacking.
     (lacks_at string_bytes c.args.files.now c.loop-file.file-index c.file-item.result c.as_str.result.now g.H.Host.lacks (held c.loop-file.host)
     (held c.args.host.now) below read called c.loop-file.invariant.2 c.loop-file.invariant.3 lacking) in
     absurd (cc)
+
+pub returns-in_err-told-clause-read_failed : goal.returns-in_err-told-clause-read_failed
+returns-in_err-told-clause-read_failed g c =
+    let gone = err_from_is_err_and c.from_residual.result c.from_residual.ensures.1 in
+    rw (gone.1, gone.2) (step_failed _ _ _ c.in_err-told.field-0.0 refl c.in_err-told.ensures.read_failed)
+
+pub returns-in_err-told-clause-not_write : goal.returns-in_err-told-clause-not_write
+returns-in_err-told-clause-not_write g c =
+    let gone = err_from_is_err_and c.from_residual.result c.from_residual.ensures.1 in
+    rw (gone.1, gone.2) (λ is. c.in_err-told.ensures.not_write (let same : c.in_err-told.field-0.0 ≡ Write = cc in ap (λ (f : CliFault). Err f) same))
+
+pub returns-in-Some-clause-read_failed : goal.returns-in-Some-clause-read_failed
+returns-in-Some-clause-read_failed g c = let stands = c.in_ok-told.ensures.stands in (λ failed. absurd (cc), λ failed. absurd (cc))

@@ -1,5 +1,5 @@
 use Rattle.std.proofs.lemmas.Result.{IfErr-weaker}
-use Rattle.tool_commands.proofs.TracedCauses.{telling_cause, telling_writes, told_written}
+use Rattle.tool_commands.proofs.TracedCauses.{no_run_cause, telling_cause, telling_writes, told_written}
 use Rattle.tool_commands.proofs.traced_run.run_traced_text.Goals as goal
 
 pub returns-clause-answered : goal.returns-clause-answered
@@ -14,3 +14,6 @@ returns-clause-fault g c =
 pub returns-clause-untraced : goal.returns-clause-untraced
 returns-clause-untraced g c =
     IfErr-weaker c.write_traced_run.result _ _ (λ fault stops no_trace no_write. absurd (telling_writes _ _ _ _ _ _ fault stops no_trace no_write)) c.write_traced_run.ensures.fault
+
+pub returns-in-Err-clause-fault : goal.returns-in-Err-clause-fault
+returns-in-Err-clause-fault g c = no_run_cause _ _ _ _ _ c.args.limit c.in-Err.fault c.in-Err.ensures.fault
