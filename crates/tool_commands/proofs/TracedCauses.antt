@@ -6,7 +6,7 @@ use Rattle.command_streams.specs.declared.fault.CliFault.TheVariants.{Write, Unw
 use Rattle.command_streams.specs.Readings.{Reading, reading}
 use Rattle.command_streams.specs.Streams.{StopsWriting}
 use Rattle.program_text.specs.Drafts.{Contents}
-use Rattle.tool_commands.specs.Runs.{run_line, IsRunFault, IsProgramRead, IsRan}
+use Rattle.tool_commands.specs.Runs.{run_line, IsRunFault, IsRunStopped, IsProgramRead, IsRan}
 use Rattle.tool_commands.specs.Traced.{Writing, writing, TellsTraced, IsReadTraced, IsTraced, IsReportCut, StopsRun, StopsTelling, HasTracedCause}
 use Rattle.tool_commands.specs.Traced.{TellsTrace, IsTraceWritten, HasTraceCause}
 use Rattle.model_histories.specs.declared.answer.Entry.{Entry}
@@ -30,6 +30,11 @@ pub no_run_cause : (reader : Reading) (traced traces wrote writes : Option (List
 no_run_cause reader traced traces wrote writes limit Write stops = absurd stops.stops
 no_run_cause reader traced traces wrote writes limit Unwritten stops = absurd stops.stops
 no_run_cause reader traced traces wrote writes limit fault stops = stops
+
+-- which is no fault of writing
+pub run_not_written : (reader : Reading) (limit : ℕ) (fault : CliFault) → StopsRun reader limit fault → fault ≡ Write → ⊥
+run_not_written reader limit fault stops write =
+    let stopped : IsRunStopped reader limit Write = subst (λ (f : CliFault). StopsRun reader limit f) write stops in stopped.stops
 
 -- what is told of a run could not be written
 pub telling_cause : (reader : Reading) (traced traces wrote writes : Option (List ℕ)) (limit : ℕ) (line trace : List ℕ) (status : ℕ) (fault : CliFault) →

@@ -26,10 +26,7 @@ fn program_fault(fault: TextFault) -> CliFault
 }
 
 /// The program that a text means, which is let go.
-fn parse_program<A: Allocator + Copy>(
-    alloc: A,
-    text: Vec<u8, A>,
-) -> Result<Program<A>, CliFault>
+fn parse_program<A: Allocator + Copy>(alloc: A, text: Vec<u8, A>) -> Result<Program<A>, CliFault>
     ensures ok { IfOk result (λ program. TextMeans text.items (contents program)) }
     ensures fault { IfErr result (IsProgramFault text.items) }
 {

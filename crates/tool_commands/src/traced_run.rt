@@ -40,7 +40,11 @@ pub struct TracedRun {
 }
 
 /// The text of the trace of a run.
-fn trace_text(alloc: Global, program: &Program<Global>, whole: &Whole) -> Result<Vec<u8>, AllocError>
+fn trace_text(
+    alloc: Global,
+    program: &Program<Global>,
+    whole: &Whole,
+) -> Result<Vec<u8>, AllocError>
     ensures plain { IfOk result (λ text. text.items ≡ plain_text (trace_contents (contents program.now) whole.now.entries.items)) }
     ensures means { IfOk result (λ text. IsRunOf (contents program.now) whole.now.entries.items →
         ∥ TextMeans text.items (trace_contents (contents program.now) whole.now.entries.items) ∥₁) }

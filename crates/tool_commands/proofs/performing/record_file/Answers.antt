@@ -4,7 +4,7 @@ use Rattle.command_streams.specs.declared.fault.CliFault.{CliFault}
 use Rattle.command_streams.specs.declared.fault.CliFault.TheVariants.{Read}
 use Rattle.command_streams.specs.Readings.{reading}
 use Rattle.tool_commands.specs.Traced.{Writing, writing, HasTracedCause}
-use Rattle.tool_commands.proofs.TracedCauses.{not_run, not_created, not_written, recorded_ran, recorded_kept, recorded_first}
+use Rattle.tool_commands.proofs.TracedCauses.{run_not_written, not_run, not_created, not_written, recorded_ran, recorded_kept, recorded_first}
 use Rattle.tool_commands.proofs.performing.record_file.Goals as goal
 
 -- a program that could not be opened is not run
@@ -52,3 +52,12 @@ pub returns-clause-recorded_first : goal.returns-clause-recorded_first
 returns-clause-recorded_first g c =
     recorded_first _ _ _ c.args.limit _ _ _ c.in-Ok-told.ensures.ok (search rules) _ _ _ _ _ _ c.write_traced_run-answer.result
     c.write_traced_run-answer.ensures.fault (search rules) (search rules)
+
+pub returns-in-Err-clause-recorded_first : goal.returns-in-Err-clause-recorded_first
+returns-in-Err-clause-recorded_first g c = λ write. absurd (let is = c.in-Err.ensures.fault in cc)
+
+pub returns-in-Err-told-clause-recorded_first : goal.returns-in-Err-told-clause-recorded_first
+returns-in-Err-told-clause-recorded_first g c = λ write. absurd (run_not_written _ c.args.limit c.in-Err-told.fault c.in-Err-told.ensures.fault write)
+
+pub returns-in-Err-create-clause-recorded_first : goal.returns-in-Err-create-clause-recorded_first
+returns-in-Err-create-clause-recorded_first g c = λ write. absurd (let is = c.in-Err-create.ensures.fault in cc)

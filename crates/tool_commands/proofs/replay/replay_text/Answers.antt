@@ -1,4 +1,6 @@
 use Rattle.std.proofs.Common.{ℕ, List, subst}
+use Rattle.std.specs.Io.KnownBytes.{Appends}
+use Rattle.trace_text.specs.Traces.{contents as trace_contents}
 use Rattle.program_text.specs.Programs.{contents}
 use Rattle.command_streams.specs.Watched.{held}
 use Rattle.command_streams.specs.Streams.{StopsWriting}
@@ -24,3 +26,14 @@ returns-clause-fault g c =
     c.in-Ok-replay_trace.ensures.ok
     (subst (λ (lines : List ℕ). StopsWriting (g.W.Write.contents (held c.args.output.now)) (g.W.Write.contents (held c.write_text.new.output)) lines c.in-Err-write_text.fault)
     c.as_slice.ensures.value c.in-Err-write_text.ensures.fault)
+
+pub returns-in-Ok-write_text-clause-answered : goal.returns-in-Ok-write_text-clause-answered
+returns-in-Ok-write_text-clause-answered g c = record {
+  contents = contents c.in-Ok.program;
+  trace_contents = trace_contents c.in-Ok-read_trace.trace;
+  line = _;
+  read = both_read _ _ _ _ c.in-Ok.ensures.ok c.in-Ok-read_trace.ensures.ok;
+  replays = c.in-Ok-replay_trace.ensures.ok;
+  written = subst (λ (text : List ℕ). Appends (g.W.Write.contents (held c.args.output.now)) (g.W.Write.contents (held c.write_text.new.output)) text)
+      c.as_slice.ensures.value c.in-Ok-write_text.ensures.ok;
+}

@@ -1,5 +1,6 @@
 use Rattle.std.proofs.Common.{rules, ℕ, List, subst}
 use Rattle.std.proofs.lemmas.Result.{err_from_is_err_and}
+use Rattle.std.specs.Io.KnownBytes.{Appends}
 use Rattle.program_text.specs.Programs.{contents}
 use Rattle.command_streams.specs.Watched.{held}
 use Rattle.command_streams.specs.Readings.{reading}
@@ -34,3 +35,13 @@ returns-in_err-write_text-clause-devices g c =
       write_failed = search rules;
       unwritten = rw (gone.1, gone.2) (λ other. absurd (other (write_alone _ _ _ c.in_err-write_text.field-0.0 c.in_err-write_text.ensures.fault)));
     }
+
+pub returns-clause-answered : goal.returns-clause-answered
+returns-clause-answered g c = record {
+  program = contents c.in_ok-program.program;
+  line = _;
+  read = c.in_ok-program.ensures.ok;
+  tells = c.in_ok-line.ensures.ok;
+  written = subst (λ (text : List ℕ). Appends (g.W.Write.contents (held c.args.output.now)) (g.W.Write.contents (held c.write_text.new.output)) text)
+      c.as_slice.ensures.value c.in_ok-write_text.ensures.ok;
+}
