@@ -2,7 +2,7 @@ use Rattle.std.proofs.Common.{ap, ◌∙◌}
 use Rattle.serde_json.specs.Data.{string}
 use Rattle.serde_json.specs.View.{view}
 use Rattle.race_records.specs.Values.{text_told}
-use Rattle.race_records.proofs.Objects.{no_member, next_member, object_told}
+use Rattle.sarif_logs.proofs.Objects.{no_member, next_member, object_told}
 use Rattle.race_records.proofs.unjudged.rendered_value.Goals as goal
 
 pub returns-in-Ok-json-10 : goal.returns-in-Ok-json-10

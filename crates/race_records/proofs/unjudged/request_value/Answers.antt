@@ -3,7 +3,7 @@ use Rattle.serde_json.specs.Data.{string}
 use Rattle.serde_json.specs.View.{view}
 use Rattle.source_quotes.specs.Lines.{line_in}
 use Rattle.race_records.specs.Values.{text_told, count_told}
-use Rattle.race_records.proofs.Objects.{no_member, next_member, object_told}
+use Rattle.sarif_logs.proofs.Objects.{no_member, next_member, object_told}
 use Rattle.race_records.proofs.unjudged.request_value.Goals as goal
 
 pub returns-in-Ok-json-20 : goal.returns-in-Ok-json-20
