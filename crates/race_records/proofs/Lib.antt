@@ -4,4 +4,4 @@ mod Faulty
 mod Named
 mod Colons
 mod Together
-pub mod Objects
+mod PlainLists

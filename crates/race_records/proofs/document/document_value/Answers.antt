@@ -2,7 +2,7 @@ use Rattle.std.proofs.Common.{ap, ◌∙◌}
 use Rattle.serde_json.specs.Data.{string}
 use Rattle.serde_json.specs.View.{view}
 use Rattle.sarif_logs.proofs.Objects.{no_member, next_member, object_told}
-use Rattle.race_records.proofs.Objects.{told_as_is}
+use Rattle.race_records.proofs.PlainLists.{told_as_is}
 use Rattle.race_records.proofs.document.document_value.Goals as goal
 
 pub returns-in-Ok-json-24 : goal.returns-in-Ok-json-24

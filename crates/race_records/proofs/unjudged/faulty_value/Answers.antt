@@ -1,6 +1,6 @@
 use Rattle.std.proofs.Common.{◌∙◌}
 use Rattle.sarif_logs.proofs.Objects.{no_member, next_member, object_told}
-use Rattle.race_records.proofs.Objects.{told_as_is}
+use Rattle.race_records.proofs.PlainLists.{told_as_is}
 use Rattle.race_records.proofs.unjudged.faulty_value.Goals as goal
 
 pub returns-in-Ok-json-8 : goal.returns-in-Ok-json-8

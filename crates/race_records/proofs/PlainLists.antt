@@ -1,4 +1,4 @@
--- A list of values as they are, put into an object.
+-- A list of values that is told as it is.
 use Rattle.std.proofs.Common.{◌≡◌, List, ap, sym}
 use Rattle.std.proofs.lemmas.List.{map-id}
 use Rattle.serde_json.specs.Data.{Data, array}
