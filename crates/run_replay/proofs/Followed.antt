@@ -1,7 +1,8 @@
 -- Entries that are judged, one after another.
 -- d: an entry, where a list has none
-use Rattle.std.proofs.Common.{◌≡◌, ℕ, ◌+◌, ◌<◌, ◌≤◌, List, [], ◌∷◌, ◌++◌, length, reverse, take, drop, get_or, refl, sym, ◌∙◌, ap, subst, arith}
+use Rattle.std.proofs.Common.{◌≡◌, ◌⊎◌, inl, inr, ℕ, ◌+◌, ◌<◌, ◌≤◌, List, [], ◌∷◌, ◌++◌, length, reverse, take, drop, get_or, slice_get, Some, None, refl, sym, ◌∙◌, ap, subst, arith}
 use Rattle.std.proofs.lemmas.List.{take-append-drop, reverse-append, length-reverse, length-take-le}
+use Rattle.std.proofs.lemmas.Option.{slice_get_cases}
 use Rattle.model_histories.specs.declared.answer.Entry.{Entry}
 use Rattle.model_histories.specs.Entries.{Entries}
 use Rattle.model_histories.specs.Shapes.{Shape, most_entries}
@@ -57,3 +58,11 @@ one_further shape entries index state d judged within below shape_is limit_is hi
       holds next (entered_next shape entries index state d judged within below shape_is limit_is history),
       more_played entries index d state.history next.history below refl history,
     )
+
+-- the entry at a place within a list
+pub entry_there : (entries : List Entry) (index : ℕ) → index < length entries → (entry : Entry) × (slice_get entries index ≡ Some entry)
+entry_there entries index below = there (slice_get_cases entries index).1 where
+  there : ((entry : Entry) × (index < length entries) × (slice_get entries index ≡ Some entry) × (get_or entries index entry ≡ entry))
+      ⊎ ((length entries ≤ index) × (slice_get entries index ≡ None)) → (entry : Entry) × (slice_get entries index ≡ Some entry)
+  there (inl found) = (found.0, found.2)
+  there (inr past) = absurd (omega (arith, below, past.0))

@@ -1,6 +1,7 @@
 //! Replays.
 
-ghost use Rattle.std.specs.Prelude.{◌≡◌, ◌↔◌, ◌+◌, ◌≤◌, ℕ, length, reverse, IsTrue, IfOk, OnOk, Err};
+ghost use Rattle.std.specs.Prelude.{◌≡◌, ◌↔◌, ◌+◌, ◌<◌, ◌≤◌, ℕ, length, reverse, slice_get, Some, IsTrue, IfOk, OnOk, Err};
+ghost use Rattle.model_histories.specs.declared.answer.Entry.{Entry as OneEntry};
 ghost use Rattle.model_histories.specs.Extensions.{IsFinished};
 ghost use Rattle.model_histories.specs.Shapes.{most_entries};
 ghost use Rattle.model_histories.specs.States.{GateState, opening};
@@ -10,6 +11,7 @@ ghost use Rattle.program_text.specs.Shapes.{shape_in};
 ghost use Rattle.model_runs.specs.Runs.{IsFinishedRun};
 ghost use Rattle.run_replay.specs.FrameTables.{IsPlayed, IsMisfit};
 ghost use Rattle.run_replay.specs.Slots.{OpensIn, PlaysIn};
+ghost use Rattle.run_replay.specs.Turns.{IsEntered};
 ghost use Rattle.run_replay.specs.Replays.{IsUnfinishedRun, IsStrange};
 ghost use Rattle.run_replay.specs.declared.replays.ReplayFault.{ReplayFault};
 ghost use Rattle.run_replay.specs.declared.turn.Misfit.{Misfit};
@@ -130,6 +132,60 @@ fn is_finished<A: Allocator>(entries: &Entries<A>) -> bool
     count > 0 && matches!(entries.get(count - 1).answer, Answer::Finished)
 }
 
+/// As [`play_at`], of an entry that may be a refusal. It is a function of its own, so that all others are played from registers, and not from
+/// a copy in memory.
+#[cold]
+#[inline(never)]
+fn play_beside<A: Allocator + Copy, B: Allocator, C: Allocator>(
+    table: &mut FrameTable<A>,
+    program: &Program<B>,
+    entries: &Entries<C>,
+    at: usize,
+) -> Result<(), Misfit>
+    requires there { at < length entries.now.items }
+    requires plays { (state : GateState) × PlaysIn program.now.functions (shape_in program.now) state
+        table.old.slots.items table.old.homes.items table.old.places.items }
+    ensures ok { (entry : OneEntry) → slice_get entries.now.items at ≡ Some entry →
+        (state next : GateState) → PlaysIn program.now.functions (shape_in program.now) state
+        table.old.slots.items table.old.homes.items table.old.places.items → IsEntered entry state next →
+        OnOk result (PlaysIn program.now.functions (shape_in program.now) next
+        table.new.slots.items table.new.homes.items table.new.places.items) }
+    ensures strange { (entry : OneEntry) → slice_get entries.now.items at ≡ Some entry →
+        (state : GateState) → PlaysIn program.now.functions (shape_in program.now) state
+        table.old.slots.items table.old.homes.items table.old.places.items →
+        result ≡ Err Misfit.Strange → IsMisfit program.now.functions (shape_in program.now) entry state }
+{
+    table.play(program, entries.get(at))
+}
+
+/// Plays the entry at this place.
+#[inline(always)]
+fn play_at<A: Allocator + Copy, B: Allocator, C: Allocator>(
+    table: &mut FrameTable<A>,
+    program: &Program<B>,
+    entries: &Entries<C>,
+    at: usize,
+) -> Result<(), Misfit>
+    requires there { at < length entries.now.items }
+    requires plays { (state : GateState) × PlaysIn program.now.functions (shape_in program.now) state
+        table.old.slots.items table.old.homes.items table.old.places.items }
+    ensures ok { (entry : OneEntry) → slice_get entries.now.items at ≡ Some entry →
+        (state next : GateState) → PlaysIn program.now.functions (shape_in program.now) state
+        table.old.slots.items table.old.homes.items table.old.places.items → IsEntered entry state next →
+        OnOk result (PlaysIn program.now.functions (shape_in program.now) next
+        table.new.slots.items table.new.homes.items table.new.places.items) }
+    ensures strange { (entry : OneEntry) → slice_get entries.now.items at ≡ Some entry →
+        (state : GateState) → PlaysIn program.now.functions (shape_in program.now) state
+        table.old.slots.items table.old.homes.items table.old.places.items →
+        result ≡ Err Misfit.Strange → IsMisfit program.now.functions (shape_in program.now) entry state }
+{
+    if entries.is_clean(at) {
+        table.play(program, entries.get(at))
+    } else {
+        play_beside(table, program, entries, at)
+    }
+}
+
 /// Plays entries that are judged, the oldest first, on what has been opened.
 fn follow_all<A: Allocator + Copy, B: Allocator, C: Allocator>(
     table: &mut FrameTable<A>,
@@ -147,7 +203,7 @@ fn follow_all<A: Allocator + Copy, B: Allocator, C: Allocator>(
         IsStrange program.now.functions (shape_in program.now) entries.now.items number }
 {
     for at in 0..entries.len() {
-        match table.play(program, entries.get(at)) {
+        match play_at(table, program, entries, at) {
             Ok(()) => {}
             Err(Misfit::Strange) => return Err(ReplayFault::Strange(at as u32 + 1)),
             Err(Misfit::Memory) => return Err(ReplayFault::Memory),

@@ -9,7 +9,7 @@ use Rattle.run_replay.specs.Turns.{IsEntered}
 use Rattle.run_replay.specs.FrameTables.{IsMisfit}
 use Rattle.run_replay.proofs.Openings.{opens_plays}
 use Rattle.run_replay.proofs.Told.{strange_at}
-use Rattle.run_replay.proofs.Followed.{so_many, one_further}
+use Rattle.run_replay.proofs.Followed.{so_many, one_further, entry_there}
 use Rattle.run_replay.proofs.replays.follow_all.Goals as goal
 
 pub loop-at-init : goal.loop-at-init
@@ -24,10 +24,10 @@ loop-at-init g c = (
   refl,
 )
 
-pub play-requires : goal.play-requires
-play-requires g c =
+pub play_at-requires : goal.play_at-requires
+play_at-requires g c =
     let kept = c.loop-at.invariant in
-    record { plays = (kept.0, kept.1) }
+    record { there = search rules; plays = (kept.0, kept.1) }
 
 pub returns-in-Err-Strange-clause-strange : goal.returns-in-Err-Strange-clause-strange
 returns-in-Err-Strange-clause-strange g c = λ number e.
@@ -39,9 +39,10 @@ returns-in-Err-Strange-clause-strange g c = λ number e.
     let is : c.loop-at.at + 1 ≡ number = cc in
     let played = so_many items c.loop-at.at kept.0.history low kept.2 in
     let place : number ≡ suc (length kept.0.history) = omega (arith, is, played) in
-    let here = get_or_from_slice_get items c.loop-at.at c.get.result c.get.result c.get.ensures in
-    strange_at functions shape kept.0 kept.1.0 c.loop-at.table.places.items kept.1.2 items c.loop-at.at kept.2 c.get.result number low place
-    (subst (λ (entry : Entry). IsMisfit functions shape entry kept.0) (sym here) (c.in-Err-Strange.ensures.strange kept.0 kept.1 (ap Err c.in-Err-Strange.field-0-is)))
+    let found = entry_there items c.loop-at.at low in
+    let here = get_or_from_slice_get items c.loop-at.at found.0 found.0 found.1 in
+    strange_at functions shape kept.0 kept.1.0 c.loop-at.table.places.items kept.1.2 items c.loop-at.at kept.2 found.0 number low place
+    (subst (λ (entry : Entry). IsMisfit functions shape entry kept.0) (sym here) (c.in-Err-Strange.ensures.strange found.0 found.1 kept.0 kept.1 (ap Err c.in-Err-Strange.field-0-is)))
 
 pub loop-at-preserved : goal.loop-at-preserved
 loop-at-preserved g c =
@@ -50,8 +51,9 @@ loop-at-preserved g c =
     let items = c.args.entries.now.items in
     let kept = c.loop-at.invariant in
     let low : c.loop-at.at < length items = search rules in
-    let now = c.play.new.self in
-    let here = get_or_from_slice_get items c.loop-at.at c.get.result c.get.result c.get.ensures in
-    one_further shape items c.loop-at.at kept.0 c.get.result c.requires.judged c.requires.within low kept.1.2.shape_is kept.1.2.limit_is kept.2
+    let now = c.play_at.new.table in
+    let found = entry_there items c.loop-at.at low in
+    let here = get_or_from_slice_get items c.loop-at.at found.0 found.0 found.1 in
+    one_further shape items c.loop-at.at kept.0 found.0 c.requires.judged c.requires.within low kept.1.2.shape_is kept.1.2.limit_is kept.2
     (λ state. PlaysIn functions shape state now.slots.items now.homes.items now.places.items)
-    (λ next entered. c.in-Ok.ensures.ok kept.0 next kept.1 (subst (λ (entry : Entry). IsEntered entry kept.0 next) here entered))
+    (λ next entered. c.in-Ok.ensures.ok found.0 found.1 kept.0 next kept.1 (subst (λ (entry : Entry). IsEntered entry kept.0 next) here entered))

@@ -1,0 +1,10 @@
+use Rattle.std.proofs.Common.{◌≡◌, subst}
+use Rattle.model_histories.specs.declared.answer.Entry.{Entry}
+use Rattle.run_replay.specs.Turns.{IsEntered}
+use Rattle.run_replay.proofs.replays.play_at.Goals as goal
+
+pub returns-then-is_clean-clause-ok : goal.returns-then-is_clean-clause-ok
+returns-then-is_clean-clause-ok g c = λ entry is state next plays entered.
+    let got = c.get.ensures in
+    let same : entry ≡ c.get.result = cc in
+    c.play.ensures.ok state next plays (subst (λ (entry : Entry). IsEntered entry state next) same entered)
