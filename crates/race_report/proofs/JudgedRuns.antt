@@ -13,12 +13,12 @@ use Rattle.model_races.specs.declared.access.CellAccess.{CellAccess}
 use Rattle.model_histories.specs.declared.answer.Answer.{Answer}
 use Rattle.model_histories.specs.declared.answer.Answer.TheVariants.{Granted, Value, Refused, Unset}
 use Rattle.model_histories.specs.declared.answer.Entry.{Entry}
-use Rattle.model_histories.specs.Entries.{Entries, control_part}
+use Rattle.model_histories.specs.Entries.{Entries}
 use Rattle.model_histories.specs.Shapes.{Shape}
 use Rattle.model_histories.specs.Legal.{Belongs}
 use Rattle.model_races.specs.Accesses.{cell_access, is_granted, access_at, granted}
 use Rattle.model_races.specs.Verdicts.{IsRightVerdict}
-use Rattle.model_races.specs.Reducers.{steps_of, read_at, granted_reads}
+use Rattle.model_races.specs.Reducers.{read_at, granted_reads}
 use Rattle.model_races.specs.ReducerVerdicts.{IsRightFor, reads_before}
 use Rattle.model_races.specs.Judged.{IsJudged}
 use Rattle.race_gate.proofs.Races.{none-listed}

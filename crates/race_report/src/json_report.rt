@@ -219,6 +219,9 @@ fn bare_value(alloc: Global, entries: usize, memory: Value) -> Result<Value, All
     })
 }
 
+/// For how many bytes of each entry a report asks room at once, since a text that grows may be moved.
+const BYTES_OF_ENTRY: usize = 16;
+
 /// The text of the report of a run that is not clean, up to its first refusal: what is told with no refusal, without the two brackets at
 /// its end.
 fn open_text(alloc: Global, entries: usize, memory: Value) -> Result<Vec<u8>, AllocError>
@@ -228,6 +231,7 @@ fn open_text(alloc: Global, entries: usize, memory: Value) -> Result<Vec<u8>, Al
 {
     let mut text = bare_value(alloc, entries, memory)?.to_vec(alloc)?;
     text.truncate(text.len() - 2);
+    let _room = text.reserve(entries.saturating_mul(BYTES_OF_ENTRY));
     Ok(text)
 }
 

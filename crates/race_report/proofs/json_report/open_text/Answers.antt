@@ -12,5 +12,6 @@ returns c refusals =
     let whole : has_float (view c.in_ok-bare_value.field-0) ≡ false = ap has_float bare ∙ bare_whole false entries memory c.requires in
     let text : c.in_ok-text.text.items ≡ opening entries memory ++ codes "]}" = c.in_ok-text.ensures.text whole ∙ ap compact_text bare ∙ opened entries memory [] in
     let count : c.len.result ≡ length c.in_ok-text.text.items = search rules in
-    let kept = c.truncate.ensures.items ∙ cut_off c.in_ok-text.text.items (opening entries memory) c.len.result text count in
+    let same : c.reserve-room.new.self.items ≡ c.truncate.new.self.items = search rules in
+    let kept = same ∙ c.truncate.ensures.items ∙ cut_off c.in_ok-text.text.items (opening entries memory) c.len.result text count in
     ap (λ (start : List ℕ). start ++ (items_text false (items_of refusals) ++ codes "}")) kept ∙ sym (opened entries memory refusals)
