@@ -83,116 +83,118 @@ fn workers_option<'a>(alloc: Global) -> Arg<'a>
 fn judge<'a>(alloc: Global) -> Result<Command<'a>, AllocError>
     ensures { IfOk result (IsCommand (leaf judge)) }
 {
-    let file = optional_word(
-        alloc,
-        "file",
-        "FILE",
-        "The trace; '-' is standard input [default: -]",
-    );
-    command(alloc, "judge", help::JUDGE, help::TRACE)
-        .arg(file)?
-        .arg(limit_option(alloc))
+    let words = vec![in alloc;
+        optional_word(
+            alloc,
+            "file",
+            "FILE",
+            "The trace; '-' is standard input [default: -]",
+        ),
+        limit_option(alloc),
+    ]?;
+    command(alloc, "judge", help::JUDGE, help::TRACE).args(words)
 }
 
 fn elide<'a>(alloc: Global) -> Result<Command<'a>, AllocError>
     ensures { IfOk result (IsCommand (leaf elide)) }
 {
-    let file = required_word(alloc, "file", "FILE", "The program; '-' is standard input");
-    let limit = option(
-        alloc,
-        "limit",
-        "N",
-        "The most requests, from 0 to 1000000 [default: 1000000]",
-    );
+    let words = vec![in alloc;
+        required_word(alloc, "file", "FILE", "The program; '-' is standard input"),
+        option(
+            alloc,
+            "limit",
+            "N",
+            "The most requests, from 0 to 1000000 [default: 1000000]",
+        ),
+    ]?;
     command(alloc, "elide", help::ELIDE, help::LANGUAGE)
         .long_about(help::ELISION)
-        .arg(file)?
-        .arg(limit)
+        .args(words)
 }
 
 fn run<'a>(alloc: Global) -> Result<Command<'a>, AllocError>
     ensures { IfOk result (IsCommand (leaf run)) }
 {
-    let file = required_word(alloc, "file", "FILE", "The program; '-' is standard input");
-    let trace = option(
-        alloc,
-        "trace",
-        "OUT",
-        "A file, made or emptied, that the trace of the run is written into; '-' is standard output, which then has no report",
-    );
+    let words = vec![in alloc;
+        required_word(alloc, "file", "FILE", "The program; '-' is standard input"),
+        workers_option(alloc),
+        limit_option(alloc),
+        option(
+            alloc,
+            "trace",
+            "OUT",
+            "A file, made or emptied, that the trace of the run is written into; '-' is standard output, which then has no report",
+        ),
+    ]?;
     command(alloc, "run", help::RUN, help::LANGUAGE)
         .long_about(help::REPORT)
-        .arg(file)?
-        .arg(workers_option(alloc))?
-        .arg(limit_option(alloc))?
-        .arg(trace)
+        .args(words)
 }
 
 fn explain<'a>(alloc: Global) -> Result<Command<'a>, AllocError>
     ensures { IfOk result (IsCommand (leaf explain)) }
 {
-    let file = required_words(
-        alloc,
-        "file",
-        "FILE",
-        "A program, or one or more traces; '-' is standard input",
-    );
-    let serial = flag(
-        alloc,
-        "serial",
-        "Run each child before what follows its spawn, by one worker: the same run each time",
-    );
-    let color = option(
-        alloc,
-        "color",
-        "WHEN",
-        "When words are painted: auto, always or never [default: auto]",
-    );
-    let format = option(
-        alloc,
-        "format",
-        "FORM",
-        "The form of the explanation: text, json or sarif [default: text]",
-    );
-    let all = flag(
-        alloc,
-        "all",
-        "Tell of every pair of lines that raced: at most 20 else, and 3 of those that part at one spawn",
-    );
+    let words = vec![in alloc;
+        required_words(
+            alloc,
+            "file",
+            "FILE",
+            "A program, or one or more traces; '-' is standard input",
+        ),
+        workers_option(alloc),
+        flag(
+            alloc,
+            "serial",
+            "Run each child before what follows its spawn, by one worker: the same run each time",
+        ),
+        limit_option(alloc),
+        option(
+            alloc,
+            "color",
+            "WHEN",
+            "When words are painted: auto, always or never [default: auto]",
+        ),
+        option(
+            alloc,
+            "format",
+            "FORM",
+            "The form of the explanation: text, json or sarif [default: text]",
+        ),
+        flag(
+            alloc,
+            "all",
+            "Tell of every pair of lines that raced: at most 20 else, and 3 of those that part at one spawn",
+        ),
+    ]?;
     command(alloc, "explain", help::EXPLAIN, help::LANGUAGE)
         .long_about(help::EXPLANATION)
-        .arg(file)?
-        .arg(workers_option(alloc))?
-        .arg(serial)?
-        .arg(limit_option(alloc))?
-        .arg(color)?
-        .arg(format)?
-        .arg(all)
+        .args(words)
 }
 
 fn replay<'a>(alloc: Global) -> Result<Command<'a>, AllocError>
     ensures { IfOk result (IsCommand (leaf replay)) }
 {
-    let file = required_word(alloc, "file", "FILE", "The program; '-' is standard input");
-    let trace = required_word(alloc, "trace", "TRACE", "The trace; '-' is standard input");
-    command(alloc, "replay", help::REPLAY, help::OUTCOME)
-        .arg(file)?
-        .arg(trace)
+    let words = vec![in alloc;
+        required_word(alloc, "file", "FILE", "The program; '-' is standard input"),
+        required_word(alloc, "trace", "TRACE", "The trace; '-' is standard input"),
+    ]?;
+    command(alloc, "replay", help::REPLAY, help::OUTCOME).args(words)
 }
 
 fn draw<'a>(alloc: Global) -> Result<Command<'a>, AllocError>
     ensures { IfOk result (IsCommand (leaf draw)) }
 {
-    let trace = required_word(alloc, "trace", "TRACE", "The trace; '-' is standard input");
-    let svg = flag(
-        alloc,
-        "svg",
-        "Writes a picture, as SVG, in place of a text for Graphviz",
-    );
+    let words = vec![in alloc;
+        required_word(alloc, "trace", "TRACE", "The trace; '-' is standard input"),
+        flag(
+            alloc,
+            "svg",
+            "Writes a picture, as SVG, in place of a text for Graphviz",
+        ),
+    ]?;
     command(alloc, "draw", help::DRAW, help::STRANDS)
         .long_about(help::DRAWING)
-        .arg(trace)?
-        .arg(svg)
+        .args(words)
 }
 
 /// The program without its commands. Its words stand behind its name.
