@@ -15,6 +15,10 @@ pub on_ok : {T E : Type 0} (result : Result T E) (P : Type 0) → P → OnOk res
 on_ok (Ok value) P holds = holds
 on_ok (Err fault) P holds = tt
 
+pub if_ok : {T E : Type 0} (result : Result T E) (P Q : T → Type 0) → IfOk result P → ((value : T) → P value → Q value) → IfOk result Q
+if_ok (Ok value) P Q holds step = step value holds
+if_ok (Err fault) P Q holds step = tt
+
 -- room for a call says nothing of what was said
 pub roomy : (functions : List Code) (function argument : ℕ) (history : List Exchange) (frame : FrameState) (room : Bool) → IsAfter functions function argument history frame
     → IsAfter functions function argument history (record frame { has_room = room })

@@ -2,15 +2,13 @@
 
 ghost use Rattle.std.specs.Prelude.{◌≡◌, ◌<◌, IfOk, IfSome, length};
 
-use crate::fault::{fault_of, frame_fault_of};
+use crate::fault::fault_of;
 use crate::task::{Spare, Task};
-use crate::worker::spawn_target;
 use function_steps::Target;
 use locked_replay::RunFault;
 use program_text::Program;
 use race_gate::{Answer, ShortGate};
 use std::alloc::{Allocator, Global};
-use text_words::Request;
 
 /// The most requests that a gate answers.
 const MOST_REQUESTS: u32 = 1_000_000;
@@ -26,27 +24,10 @@ fn ask_next<A: Allocator + Clone>(
     ensures target { IfOk result (λ asked. IfSome asked.1 (λ target. target.function < length task.old.program.now.functions)) }
     ensures program { task.new.program ≡ task.old.program }
 {
-    let Task {
-        strand,
-        program,
-        frame,
-    } = task;
-    if frame.is_over() {
-        return Err(RunFault::Strange);
-    }
-    frame.reserve_call()?;
-    let want = frame.next(program);
-    let target = spawn_target(frame, program, want.act);
-    let request = Request {
-        strand: *strand,
-        act: want.act,
-        line: want.line,
-    };
-    let receipt = gate.judge(request).map_err(fault_of)?;
-    frame
-        .answer(program, &receipt.answer)
-        .map_err(frame_fault_of)?;
-    Ok((receipt.answer, target))
+    let next = task.next_request()?;
+    let receipt = gate.judge(next.request).map_err(fault_of)?;
+    task.answer(&receipt.answer)?;
+    Ok((receipt.answer, next.target))
 }
 
 /// The task of a child on its strand. The spawner waits for its return, to go on on the next strand.

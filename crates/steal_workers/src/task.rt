@@ -1,14 +1,20 @@
 //! Tasks.
 
-ghost use Rattle.std.specs.Prelude.{◌≡◌, ◌<◌, [], length, IfOk};
+ghost use Rattle.std.specs.Prelude.{◌≡◌, ◌≢◌, ◌<◌, ℕ, List, [], length, IfErr, IfOk, IfSome};
 ghost use Rattle.std.proofs.Props.{props};
-ghost use Rattle.frame_steps.specs.Frames.{IsAfter, Stands};
+ghost use Rattle.frame_steps.specs.Frames.{IsAfter, CanFollow, Stands};
+ghost use Rattle.locked_replay.specs.declared.fault.RunFault.{RunFault};
+ghost use Rattle.model_programs.specs.Exchanges.{Exchange};
 ghost use Rattle.steal_workers.specs.Standing.{stands_once};
 
+use crate::fault::frame_fault_of;
 use frame_steps::Frame;
 use function_steps::Target;
+use locked_replay::RunFault;
 use program_text::Program;
+use race_gate::Answer;
 use std::alloc::{AllocError, Allocator, Global};
+use text_words::{Act, Request};
 
 /// Frames of tasks that have ended, to be used again.
 pub(crate) type Spare<A> = Vec<Box<Frame<A>, A>, A>;
@@ -36,6 +42,63 @@ impl<'p, A: Allocator> Drop for Task<'p, A> {
             frame: _,
         } = self;
     }
+}
+
+/// The function that a frame spawns, which wants this act. The frame is not asked where it can be none.
+fn spawn_target<A: Allocator>(
+    frame: &Frame<A>,
+    program: &Program<Global>,
+    act: Act,
+) -> Option<Target>
+    requires { Stands program.now.functions frame.now }
+    ensures { IfSome result (λ target. target.function < length program.now.functions) }
+{
+    match act {
+        Act::Spawn => frame.spawns(program),
+        _ => None,
+    }
+}
+
+/// What a task asks next, and what its frame knows of it before it is answered.
+#[derive(Clone, Copy)]
+pub(crate) struct NextRequest {
+    pub(crate) request: Request,
+    /// The function that the request spawns.
+    pub(crate) target: Option<Target>,
+    /// The join of the block that is open.
+    pub(crate) join: Option<u32>,
+}
+
+/// What a frame asks next, on this strand.
+fn next_of<A: Allocator>(
+    frame: &mut Frame<A>,
+    program: &Program<Global>,
+    strand: u32,
+) -> Result<NextRequest, RunFault>
+    requires { Stands program.now.functions frame.old }
+    ensures stands { Stands program.now.functions frame.new }
+    ensures on { IfOk result (λ next. next.request.strand ≡ strand) }
+    ensures wanted { IfOk result (λ next. (function argument : ℕ) (history : List Exchange) (x : Exchange) →
+        IsAfter program.now.functions function argument history frame.old → CanFollow program.now.functions function argument history x →
+        (x.act ≡ next.request.act) × (x.line ≡ next.request.line)) }
+    ensures target { IfOk result (λ next. IfSome next.target (λ target. target.function < length program.now.functions)) }
+    ensures err { IfErr result (λ fault. fault ≢ RunFault.Torn) }
+{
+    if frame.is_over() {
+        return Err(RunFault::Strange);
+    }
+    frame.reserve_call()?;
+    let want = frame.next(program);
+    let request = Request {
+        strand,
+        act: want.act,
+        line: want.line,
+    };
+    Ok(NextRequest {
+        request,
+        target: spawn_target(frame, program, want.act),
+        join: frame.block_join(),
+    })
 }
 
 /// A function at its begin, in a frame of the reserve where there is one.
@@ -106,6 +169,31 @@ impl<'p, A: Allocator + Copy> Task<'p, A> {
 
 impl<'p, A: Allocator> Task<'p, A> {
     ghost use Rattle.steal_workers.specs.Tasks.{IsOn};
+    ghost use Rattle.steal_workers.specs.Workers.{IsWanted};
+
+    /// What the task asks next, with room for a call. Asked again before an answer, it asks the same.
+    pub(crate) fn next_request(&mut self) -> Result<NextRequest, RunFault>
+        ensures strand { self.new.strand ≡ self.old.strand }
+        ensures program { self.new.program ≡ self.old.program }
+        ensures on { IfOk result (λ next. next.request.strand ≡ self.old.strand) }
+        ensures wanted { IfOk result (λ next. IsWanted self.old next.request) }
+        ensures target { IfOk result (λ next.
+            IfSome next.target (λ target. target.function < length self.old.program.now.functions)) }
+        ensures err { IfErr result (λ fault. fault ≢ RunFault.Torn) }
+    {
+        next_of(&mut self.frame, self.program, self.strand)
+    }
+
+    /// The frame takes the answer to what it asked.
+    pub(crate) fn answer(&mut self, answer: &Answer) -> Result<(), RunFault>
+        ensures strand { self.new.strand ≡ self.old.strand }
+        ensures program { self.new.program ≡ self.old.program }
+        ensures err { IfErr result (λ fault. fault ≢ RunFault.Torn) }
+    {
+        self.frame
+            .answer(self.program, answer)
+            .map_err(frame_fault_of)
+    }
 
     /// The frame goes on on this strand.
     pub(crate) fn on(mut self, strand: u32) -> Task<'p, A>

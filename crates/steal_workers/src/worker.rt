@@ -2,17 +2,15 @@
 
 ghost use Rattle.std.specs.Prelude.{◌≡◌, ◌↔◌, ◌+◌, ◌<◌, [], ◌∷◌, ◌++◌, Err, IfErr, IfOk};
 ghost use Rattle.std.specs.Prelude.{IfSome, IsTrue, MatchOption, OnOk, length, vec_len};
-ghost use Rattle.frame_steps.specs.Frames.{Stands};
 ghost use Rattle.locked_replay.specs.declared.fault.RunFault.{RunFault};
 ghost use Rattle.steal_workers.specs.PassLogs.{pushing};
 ghost use Rattle.steal_workers.specs.Goings.{GoesOn, HandsOut, IsAtJoin};
 
-use crate::fault::{fault_of, frame_fault_of, lot_fault_of};
+use crate::fault::{fault_of, lot_fault_of};
 use crate::lot::{DOZE, Lot};
-use crate::task::{Spare, Task};
+use crate::task::{NextRequest, Spare, Task};
 use crate::worker_deques::WorkerDeques;
 use crossbeam_utils::Backoff;
-use frame_steps::Frame;
 use function_steps::Target;
 use locked_replay::{Ask, RunFault, Seat, WorkerLog};
 use packed_history::Receipts;
@@ -22,30 +20,6 @@ use std::alloc::{AllocError, Allocator, Global};
 use std::sync::Wait;
 use std::sync::ledger::Ledger;
 use text_words::{Act, Request};
-
-/// The function that a frame spawns, which wants this act. The frame is not asked where it can be none.
-pub(crate) fn spawn_target<A: Allocator>(
-    frame: &Frame<A>,
-    program: &Program<Global>,
-    act: Act,
-) -> Option<Target>
-    requires { Stands program.now.functions frame.now }
-    ensures { IfSome result (λ target. target.function < length program.now.functions) }
-{
-    match act {
-        Act::Spawn => frame.spawns(program),
-        _ => None,
-    }
-}
-
-/// What a frame knew of its request before it was answered.
-#[derive(Clone, Copy)]
-struct RequestContext {
-    /// The function that the request spawns.
-    target: Option<Target>,
-    /// The join of the block that was open.
-    join: Option<u32>,
-}
 
 /// Where a worker goes on after an answer.
 #[derive(Clone, Copy)]
@@ -187,28 +161,10 @@ impl<'p, L: Ledger, A: Allocator + Copy> Worker<'p, L, A> {
         ensures joins { IfOk result (λ going. IsAtJoin going → EndsAtJoin self.new.receipts.items) }
         ensures torn { result ≡ Err RunFault.Torn → EndsAtJoin self.new.receipts.items }
     {
-        let Task {
-            strand,
-            program,
-            frame,
-        } = task;
-        if frame.is_over() {
-            return Err(RunFault::Strange);
-        }
-        frame.reserve_call()?;
-        let want = frame.next(program);
-        let asked = RequestContext {
-            target: spawn_target(frame, program, want.act),
-            join: frame.block_join(),
-        };
-        let request = Request {
-            strand: *strand,
-            act: want.act,
-            line: want.line,
-        };
-        let answer = self.ask(rt, gate, request)?;
-        frame.answer(program, &answer).map_err(frame_fault_of)?;
-        self.follow(rt, alloc, lot, program, strand, answer, asked)
+        let next = task.next_request()?;
+        let answer = self.ask(rt, gate, next.request)?;
+        task.answer(&answer)?;
+        self.follow(rt, alloc, lot, task, answer, next)
     }
 
     /// Where the worker goes on after an answer that the frame took, and on which strand.
@@ -217,27 +173,26 @@ impl<'p, L: Ledger, A: Allocator + Copy> Worker<'p, L, A> {
         rt: &R,
         alloc: A,
         lot: &Lot<'p, A>,
-        program: &'p Program<Global>,
-        strand: &mut u32,
+        task: &mut Task<'p, A>,
         answer: Answer,
-        asked: RequestContext,
+        asked: NextRequest,
     ) -> Result<NextStep, RunFault>
-        requires { IfSome asked.target (λ t. t.function < length program.now.functions) }
+        requires { IfSome asked.target (λ t. t.function < length task.old.program.now.functions) }
         ensures station { station_of self.new ≡ station_of self.old }
         ensures pushed { OnOk result ((own_view self.new.ends).pushed ≡ (own_view self.old.ends).pushed ++ child_of answer) }
         ensures receipts { self.new.receipts ≡ self.old.receipts }
-        ensures goes_on { GoesOn answer asked.join strand.old strand.new result }
+        ensures goes_on { GoesOn answer asked.join task.old.strand task.new.strand result }
         ensures joins { IfOk result (λ going. IsAtJoin going → MeetsJoin answer) }
         ensures torn { result ≡ Err RunFault.Torn → ⊥ }
     {
         match answer {
             Answer::Split(strands) => {
-                self.spawn(alloc, program, strands.child, asked.target)?;
-                *strand = strands.next;
+                self.spawn(alloc, task.program, strands.child, asked.target)?;
+                task.strand = strands.next;
                 Ok(NextStep::Ahead)
             }
             Answer::Joined(join) => {
-                *strand = join;
+                task.strand = join;
                 Ok(NextStep::Ahead)
             }
             Answer::Waits => match asked.join {

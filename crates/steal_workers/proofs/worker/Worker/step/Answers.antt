@@ -1,37 +1,26 @@
-use Rattle.std.proofs.Common.{rules, ◌≡◌, true, List, Result, Err, inl, inr, refl, sym, subst, ap, ◌∙◌}
+use Rattle.std.proofs.Common.{rules, ◌≡◌, List, Result, Err, inl, inr, sym, ap, ◌∙◌}
 use Rattle.model_accesses.specs.declared.request.Request.{Request}
 use Rattle.model_histories.specs.declared.reply.Receipt.{Receipt}
-use Rattle.frame_steps.specs.States.{FrameState}
-use Rattle.frame_steps.specs.Frames.{IsAfter}
 use Rattle.model_histories.specs.declared.fault.GateFault.{GateFault}
 use Rattle.model_histories.specs.declared.fault.GateFault.TheVariants as gate
 use Rattle.locked_replay.specs.declared.fault.RunFault.{RunFault}
-use Rattle.locked_replay.specs.declared.fault.RunFault.TheVariants.{Torn, Strange, Memory}
+use Rattle.locked_replay.specs.declared.fault.RunFault.TheVariants.{Torn, Strange}
 use Rattle.steal_workers.specs.Faults.{fault_of}
-use Rattle.steal_workers.specs.Workers.{AsksFor, IsWanted, KeepsReceipt}
-use Rattle.steal_workers.proofs.Asking.{on_ok, roomy, ends_at_join}
+use Rattle.steal_workers.specs.Workers.{AsksFor, KeepsReceipt}
+use Rattle.steal_workers.proofs.Asking.{on_ok, ends_at_join}
 use Rattle.steal_workers.proofs.worker.Worker.step.Goals as goal
 
 pub returns-clause-asks : goal.returns-clause-asks
 returns-clause-asks g c =
-    let task = c.args.task.now in
-    let functions = task.program.now.functions in
+    let next = c.in_ok-next in
     let kept = c.in_ok-answer.ensures.kept in
-    let request : Request = record { strand = task.strand; act = c.next-want.result.act; line = c.next-want.result.line } in
-    let receipt : Receipt = record { number = kept.0; request = request; answer = c.in_ok-answer.answer } in
-    let wanted : IsWanted task request = λ function argument history x after can.
-    let with_room = subst (λ (frame : FrameState). IsAfter functions function argument history (record frame { has_room = true })) (sym c.deref_mut.ensures.value)
-    (roomy functions function argument history task.frame.value true after) in
-    let reserved = subst (IsAfter functions function argument history) (sym c.in_ok-reserve_call.ensures.ok) with_room in
-    let roomed = subst (IsAfter functions function argument history) (sym c.deref_mut-2.ensures.value) reserved in
-    c.next-want.ensures.asks x ((c.next-want.ensures.only function argument history x roomed).0 can) in
-    on_ok c.follow.result (AsksFor task c.args.self.now.receipts.items c.follow.new.self.receipts.items) (receipt, ap (λ receipts. receipts.items) c.follow.ensures.receipts ∙ kept.1, refl, wanted)
+    let receipt : Receipt = record { number = kept.0; request = next.next.request; answer = c.in_ok-answer.answer } in
+    on_ok c.follow.result (AsksFor c.args.task.now c.args.self.now.receipts.items c.follow.new.self.receipts.items) (receipt, ap (λ receipts. receipts.items) c.follow.ensures.receipts ∙ kept.1, next.ensures.on, next.ensures.wanted)
 
 pub returns-clause-joins : goal.returns-clause-joins
 returns-clause-joins g c =
     let kept = c.in_ok-answer.ensures.kept in
-    let request : Request = record { strand = c.args.task.now.strand; act = c.next-want.result.act; line = c.next-want.result.line } in
-    let receipt : Receipt = record { number = kept.0; request = request; answer = c.in_ok-answer.answer } in
+    let receipt : Receipt = record { number = kept.0; request = c.in_ok-next.next.request; answer = c.in_ok-answer.answer } in
     ends_at_join c.follow.result c.follow.new.self.receipts.items c.args.self.now.receipts.items receipt (ap (λ receipts. receipts.items) c.follow.ensures.receipts ∙ kept.1) c.follow.ensures.joins
 
 pub returns-clause-torn : goal.returns-clause-torn
@@ -59,11 +48,8 @@ returns-in_err-answer-clause-torn g c torn =
     let told : c.from_residual-in_err-answer.result ≡ Err fault = search rules in
     asked_torn _ _ _ fault c.in_err-answer.ensures.kept (same_fault _ fault Torn told torn)
 
-pub returns-in_err-reserve_call-clause-torn : goal.returns-in_err-reserve_call-clause-torn
-returns-in_err-reserve_call-clause-torn g c torn =
-    let told : c.from_residual.result ≡ Err Memory = search rules in
-    let same : Memory ≡ Torn = same_fault _ Memory Torn told torn in
-    absurd (cc)
-
-pub returns-then-is_over-clause-torn : goal.returns-then-is_over-clause-torn
-returns-then-is_over-clause-torn g c torn = absurd (cc)
+pub returns-in_err-next-clause-torn : goal.returns-in_err-next-clause-torn
+returns-in_err-next-clause-torn g c torn =
+    let fault = c.in_err-next.field-0.0 in
+    let told : c.from_residual.result ≡ Err fault = search rules in
+    absurd (c.in_err-next.ensures.err (same_fault _ fault Torn told torn))

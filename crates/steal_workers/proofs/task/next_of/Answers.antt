@@ -1,0 +1,25 @@
+use Rattle.std.proofs.Common.{rules, ◌≡◌, ◌≢◌, true, Err, sym, subst}
+use Rattle.std.specs.Prelude.{IfErr}
+use Rattle.frame_steps.specs.Frames.{IsAfter}
+use Rattle.locked_replay.specs.declared.fault.RunFault.TheVariants.{Torn, Memory}
+use Rattle.steal_workers.proofs.Asking.{roomy}
+use Rattle.steal_workers.proofs.task.next_of.Goals as goal
+
+pub returns-clause-wanted : goal.returns-clause-wanted
+returns-clause-wanted g c =
+    let frame = c.args.frame.now in
+    let functions = c.args.program.now.functions in
+    λ function argument history x after can.
+    let roomed = subst (IsAfter functions function argument history) (sym c.in_ok-reserve_call.ensures.ok) (roomy functions function argument history frame true after) in
+    c.next-want.ensures.asks x ((c.next-want.ensures.only function argument history x roomed).0 can)
+
+pub returns-clause-target : goal.returns-clause-target
+returns-clause-target g c = c.spawn_target.ensures
+
+pub returns-then-is_over-clause-err : goal.returns-then-is_over-clause-err
+returns-then-is_over-clause-err g c = λ same. absurd (cc)
+
+pub returns-in_err-reserve_call-clause-err : goal.returns-in_err-reserve_call-clause-err
+returns-in_err-reserve_call-clause-err g c =
+    let told : c.from_residual.result ≡ Err Memory = search rules in
+    subst (λ result. IfErr result (λ fault. fault ≢ Torn)) (sym told) (λ same. absurd (cc))
