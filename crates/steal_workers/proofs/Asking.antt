@@ -1,6 +1,6 @@
 -- What a task asks next.
-use Rattle.std.proofs.Common.{◌≡◌, ℕ, Bool, List, [], ◌∷◌, ◌++◌, Result, Ok, Err}
-use Rattle.std.specs.Prelude.{IfOk, OnOk}
+use Rattle.std.proofs.Common.{◌≡◌, ℕ, Bool, List, [], ◌∷◌, ◌++◌, Result, Ok, Err, ap}
+use Rattle.std.specs.Prelude.{IfOk, IsErrAnd, OnOk}
 use Rattle.model_bodies.specs.Codes.{Code}
 use Rattle.model_histories.specs.declared.reply.Receipt.{Receipt}
 use Rattle.model_programs.specs.Exchanges.{Exchange}
@@ -18,6 +18,11 @@ on_ok (Err fault) P holds = tt
 pub if_ok : {T E : Type 0} (result : Result T E) (P Q : T → Type 0) → IfOk result P → ((value : T) → P value → Q value) → IfOk result Q
 if_ok (Ok value) P Q holds step = step value holds
 if_ok (Err fault) P Q holds step = tt
+
+-- where its error is known, the result is
+pub err_is : {T E : Type 0} (result : Result T E) (fault : E) → IsErrAnd result (λ e. e ≡ fault) → result ≡ Err fault
+err_is (Ok value) fault is = absurd is
+err_is (Err e) fault is = ap Err is
 
 -- room for a call says nothing of what was said
 pub roomy : (functions : List Code) (function argument : ℕ) (history : List Exchange) (frame : FrameState) (room : Bool) → IsAfter functions function argument history frame

@@ -57,8 +57,7 @@ impl<'p, L: Ledger, A: Allocator + Copy> Room<'p, L, A> {
             mut passes,
         } = self;
         for worker in workers {
-            let (log, ends) = worker.into_parts();
-            let (owner, reaches) = ends.into_parts();
+            let (log, owner, reaches) = worker.into_parts();
             logs.push_reserved(log);
             owners.push_reserved(owner);
             passes.push_reserved(reaches);

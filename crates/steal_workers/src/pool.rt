@@ -57,31 +57,35 @@ fn hire<'p, L: Ledger, A: Allocator + Copy>(
     ensures ready { IfOk result (λ hired. IsReady hired.items) }
     ensures before { IfOk result (λ hired. sum_by (λ w. w.before) hired.items ≡ seat.asked) }
 {
+    let room = Vec::with_capacity(alloc, ends.len())?;
     let mut ends = ends;
     let Some(last) = ends.pop() else {
         unreachable!()
     };
-    let mut hired = hire_each(alloc, ends, &mut seat)?;
-    hired.push(Worker::new(alloc, seat, last))?;
+    let mut hired = hire_each(alloc, ends, &mut seat, room);
+    hired.push_reserved(Worker::new(alloc, seat, last));
     Ok(hired)
 }
 
-/// A worker for each of these ends, on a part of the seat.
+/// A worker for each of these ends, on a part of the seat. There is room for one more.
 fn hire_each<'p, L: Ledger, A: Allocator + Copy>(
     alloc: A,
     ends: Vec<WorkerDeques<'p, A>, A>,
     seat: &mut Seat<L>,
-) -> Result<Vec<Worker<'p, L, A>, A>, AllocError>
-    requires { vec_len ends < seat.old.parts }
-    ensures ends { IfOk result (λ hired. map (λ w. w.ends) hired.items ≡ ends.entry.items) }
-    ensures before { IfOk result (λ hired. sum_by (λ w. w.before) hired.items ≡ 0) }
+    mut hired: Vec<Worker<'p, L, A>, A>,
+) -> Vec<Worker<'p, L, A>, A>
+    requires parts { vec_len ends < seat.old.parts }
+    requires room { vec_len hired + vec_len ends < vec_capacity hired }
+    requires empty { vec_len hired ≡ 0 }
+    ensures room { vec_len result < vec_capacity result }
+    ensures ends { map (λ w. w.ends) result.items ≡ ends.entry.items }
+    ensures before { sum_by (λ w. w.before) result.items ≡ 0 }
     ensures asked { seat.new.asked ≡ seat.old.asked }
 {
-    let mut hired = Vec::new(alloc);
     for it in ends {
-        hired.push(Worker::new(alloc, seat.split(), it))?;
+        hired.push_reserved(Worker::new(alloc, seat.split(), it));
     }
-    Ok(hired)
+    hired
 }
 
 fn is_finishing(receipt: Receipt) -> bool

@@ -8,6 +8,8 @@ ghost use Rattle.steal_workers.specs.Goings.{GoesOn, HandsOut, IsAtJoin};
 
 use crate::fault::{fault_of, lot_fault_of};
 use crate::lot::{DOZE, Lot};
+use crate::pass_log::Owner;
+use crate::steal_handle::StealHandle;
 use crate::task::{NextRequest, Spare, Task};
 use crate::worker_deques::WorkerDeques;
 use crossbeam_utils::Backoff;
@@ -318,11 +320,12 @@ impl<'p, L: Ledger, A: Allocator + Copy> Worker<'p, L, A> {
         self
     }
 
-    /// What the worker brings back, and its ends of the deques.
-    pub(crate) fn into_parts(self) -> (WorkerLog<L, A>, WorkerDeques<'p, A>)
+    /// What the worker brings back, its own deque, and the reaches into all of them.
+    pub(crate) fn into_parts(self) -> (WorkerLog<L, A>, Owner<'p, A>, Vec<StealHandle<'p, A>, A>)
         ensures log { (result.0.seat.asked ≡ self.entry.before + length result.0.receipts.items)
             × (result.0.receipts ≡ self.entry.receipts) }
-        ensures ends { result.1 ≡ self.entry.ends }
+        ensures owner { result.1 ≡ self.entry.ends.owner }
+        ensures reaches { result.2 ≡ self.entry.ends.reaches }
     {
         let Worker {
             before: _,
@@ -332,6 +335,7 @@ impl<'p, L: Ledger, A: Allocator + Copy> Worker<'p, L, A> {
             spare: _,
             fault: _,
         } = self;
-        (WorkerLog { seat, receipts }, ends)
+        let (owner, reaches) = ends.into_parts();
+        (WorkerLog { seat, receipts }, owner, reaches)
     }
 }

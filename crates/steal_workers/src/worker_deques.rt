@@ -100,13 +100,13 @@ fn make_own_deques<'p, A: Allocator + Copy>(
     ensures places { IfOk result (λ ends. places_of ends.items ≡ map (λ place. place) (range_with_len 0 workers)) }
     ensures views { IfOk result (λ ends. All (λ v. v ≡ pass_log [] []) (map own_view ends.items)) }
 {
-    let mut ends = Vec::new(alloc);
+    let mut ends = Vec::with_capacity(alloc, workers)?;
     for place in 0..workers {
-        ends.push(WorkerDeques {
+        ends.push_reserved(WorkerDeques {
             place,
             owner: Owner::lifo_as(alloc, ROOM)?,
             reaches: Vec::new(alloc),
-        })?;
+        });
     }
     Ok(ends)
 }
@@ -123,9 +123,9 @@ fn make_steal_handles<'p, A: Allocator>(
     ensures reaches { OnOk result (map deques_of ends.new.items ≡ map deques_of ends.old.items) }
     ensures ok { IfOk result (λ reaches. map deque_of reaches.items ≡ map own_deque ends.old.items) }
 {
-    let mut reaches = Vec::new(alloc);
+    let mut reaches = Vec::with_capacity(alloc, ends.len())?;
     for place in 0..ends.len() {
-        reaches.push(StealHandle::new(&mut ends[place].owner)?)?;
+        reaches.push_reserved(StealHandle::new(&mut ends[place].owner)?);
     }
     Ok(reaches)
 }

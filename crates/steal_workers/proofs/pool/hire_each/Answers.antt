@@ -1,6 +1,6 @@
-use Rattle.std.proofs.Common.{rules, ◌++◌, ◌∷◌, [], map, sym, ap, refl, arith, ◌∙◌}
+use Rattle.std.proofs.Common.{rules, ◌≡◌, ◌++◌, ◌∷◌, [], map, sym, ap, refl, arith, ◌∙◌}
 use Rattle.std.specs.List.{sum_by}
-use Rattle.std.proofs.lemmas.List.{map-append, map-id}
+use Rattle.std.proofs.lemmas.List.{map-append, map-id, nil_from_length}
 use Rattle.std.proofs.lemmas.Iterator.Adapters.{YieldsList-from_vec}
 use Rattle.std.proofs.lemmas.Iterator.Consumers.{YieldsList-end}
 use Rattle.std.proofs.lemmas.List.Sums.{sum_by_push}
@@ -10,27 +10,34 @@ pub loop-it-preserved : goal.loop-it-preserved
 loop-it-preserved g c =
     let was = c.loop-it.invariant in
     let hired = c.loop-it.hired.items in
-    let asked = ap (sum_by (λ w. w.before)) c.in_ok-push.ensures.items ∙ sum_by_push (λ w. w.before) hired c.new.result in record {
+    let asked = ap (sum_by (λ w. w.before)) c.push_reserved.ensures.items ∙ sum_by_push (λ w. w.before) hired c.new.result in record {
+      room = omega (arith, was.room, c.in-Some.ensures.steps, c.push_reserved.ensures.len, c.push_reserved.ensures.capacity);
       parts = search rules;
       seat = c.split.ensures.left.0 ∙ was.seat;
       none = omega (arith, asked, was.none, c.new.ensures.before, c.split.ensures.new.0);
-      ends = ap (map (λ w. w.ends)) c.in_ok-push.ensures.items ∙ map-append (λ w. w.ends) hired _ ∙ ap (λ ends. ends ++ c.new.result.ends ∷ []) was.ends
+      ends = ap (map (λ w. w.ends)) c.push_reserved.ensures.items ∙ map-append (λ w. w.ends) hired _ ∙ ap (λ ends. ends ++ c.new.result.ends ∷ []) was.ends
           ∙ ap (λ it. c.loop-it.yielded ++ it ∷ []) c.new.ensures.ends;
     }
 
 pub loop-it-init : goal.loop-it-init
-loop-it-init g c = record {
-  parts = omega (arith, c.into_iter-it-iterator.ensures.into_iter_gives.1, c.requires);
-  seat = refl;
-  none = ap (sum_by (λ w. w.before)) c.new-hired.ensures.items;
-  ends = ap (map (λ w. w.ends)) c.new-hired.ensures.items;
-}
+loop-it-init g c =
+    let none : c.args.hired.items ≡ [] = nil_from_length c.args.hired.items (omega (arith, c.requires.empty, c.args.hired.ok.0)) in
+    let left = c.into_iter-it-iterator.ensures.into_iter_gives.1 in record {
+      room = omega (arith, left, c.requires.room);
+      parts = omega (arith, left, c.requires.parts);
+      seat = refl;
+      none = ap (sum_by (λ w. w.before)) none;
+      ends = ap (map (λ w. w.ends)) none;
+    }
 
 pub split-requires : goal.split-requires
 split-requires g c = omega (arith, c.loop-it.invariant.parts, c.in-Some.ensures.steps)
 
-pub returns-in_err-push-clause-asked : goal.returns-in_err-push-clause-asked
-returns-in_err-push-clause-asked g c = c.split.ensures.left.0 ∙ c.loop-it.invariant.seat
+pub push_reserved-requires : goal.push_reserved-requires
+push_reserved-requires g c = omega (arith, c.loop-it.invariant.room, c.in-Some.ensures.steps)
+
+pub returns-clause-room : goal.returns-clause-room
+returns-clause-room g c = omega (arith, c.loop-it.invariant.room)
 
 pub returns-clause-ends : goal.returns-clause-ends
 returns-clause-ends g c =

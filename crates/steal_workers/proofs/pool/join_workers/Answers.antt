@@ -1,4 +1,4 @@
-use Rattle.std.proofs.Common.{rules, ◌≡◌, ◌++◌, ◌∷◌, [], map, sym, subst, ap, arith, ◌∙◌}
+use Rattle.std.proofs.Common.{◌≡◌, ◌++◌, ◌∷◌, [], map, sym, subst, ap, arith, ◌∙◌}
 use Rattle.std.specs.Prelude.{All}
 use Rattle.std.proofs.lemmas.List.{map-append, map-id, nil_from_length}
 use Rattle.std.proofs.lemmas.Iterator.Adapters.{YieldsList-from_vec}
@@ -16,7 +16,7 @@ loop-thread-preserved g c =
     let was = c.loop-thread.invariant in
     let yielded = c.loop-thread.yielded in
     let thread = c.in-Some.thread in record {
-      room = search rules;
+      room = omega (arith, was.room, c.in-Some.ensures.steps, c.push_reserved.ensures.len, c.push_reserved.ensures.capacity);
       back = ap stations_of c.push_reserved.ensures.items ∙ map-append station_of c.loop-thread.back.items (c.join.result ∷ [])
           ∙ ap (λ stations. stations ++ station_of c.join.result ∷ []) was.back
           ∙ ap (λ station. stations_of (map began yielded) ++ station ∷ []) c.join.ensures.0

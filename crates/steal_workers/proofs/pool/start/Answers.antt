@@ -18,20 +18,20 @@ loop-worker-preserved-in-Ok g c =
     let promised : began c.in-Ok.thread ≡ worker = search rules in
     let grown : map began c.push_reserved.new.self.items ≡ map began running ++ worker ∷ [] =
     ap (map began) c.push_reserved.ensures.items ∙ map-append began running (c.in-Ok.thread ∷ []) ∙ ap (λ more. map began running ++ more ∷ []) promised in record {
-      room = search rules;
-      at_most = search rules;
+      room = omega (arith, was.room, c.in-Some.ensures.steps, c.push_reserved.ensures.len, c.push_reserved.ensures.capacity);
+      at_most = omega (arith, was.at_most, c.in-Some.ensures.steps, c.push_reserved.ensures.len);
       hired = λ all. grown ∙ ap (λ workers. workers ++ worker ∷ []) (was.hired all);
       some = subst (λ workers. AreSomeOf workers (c.loop-worker.yielded ++ worker ∷ [])) (sym grown) (some-push (map began running) c.loop-worker.yielded worker was.some);
-      fewer = λ refused. let less = was.fewer refused in search rules;
+      fewer = λ refused. omega (arith, was.fewer refused, c.in-Some.ensures.steps, c.push_reserved.ensures.len);
     }
 
 pub loop-worker-preserved : goal.loop-worker-preserved
 loop-worker-preserved g c = record {
-  room = search rules;
-  at_most = search rules;
+  room = omega (arith, c.loop-worker.invariant.room, c.in-Some.ensures.steps);
+  at_most = omega (arith, c.loop-worker.invariant.at_most, c.in-Some.ensures.steps);
   hired = λ all. absurd (cc);
   some = some-less _ c.loop-worker.yielded c.in-Some.worker c.loop-worker.invariant.some;
-  fewer = λ refused. search rules;
+  fewer = λ refused. omega (arith, c.loop-worker.invariant.at_most, c.in-Some.ensures.steps);
 }
 
 pub returns-clause-hired : goal.returns-clause-hired

@@ -1,8 +1,8 @@
-use Rattle.std.proofs.Common.{rules, ◌≡◌, ◌≢◌, true, Err, sym, subst}
+use Rattle.std.proofs.Common.{◌≡◌, ◌≢◌, true, Err, sym, subst}
 use Rattle.std.specs.Prelude.{IfErr}
 use Rattle.frame_steps.specs.Frames.{IsAfter}
 use Rattle.locked_replay.specs.declared.fault.RunFault.TheVariants.{Torn, Memory}
-use Rattle.steal_workers.proofs.Asking.{roomy}
+use Rattle.steal_workers.proofs.Asking.{err_is, roomy}
 use Rattle.steal_workers.proofs.task.next_of.Goals as goal
 
 pub returns-clause-wanted : goal.returns-clause-wanted
@@ -21,5 +21,5 @@ returns-then-is_over-clause-err g c = λ same. absurd (cc)
 
 pub returns-in_err-reserve_call-clause-err : goal.returns-in_err-reserve_call-clause-err
 returns-in_err-reserve_call-clause-err g c =
-    let told : c.from_residual.result ≡ Err Memory = search rules in
+    let told : c.from_residual.result ≡ Err Memory = err_is _ Memory c.from_residual.ensures.1 in
     subst (λ result. IfErr result (λ fault. fault ≢ Torn)) (sym told) (λ same. absurd (cc))

@@ -15,9 +15,11 @@ loop-place-preserved g c =
     let within : at < length ends = search rules in
     let made : deque_of c.in_ok-new.field-0 ≡ own_deque (get_or ends at here) = c.in_ok-new.ensures.reach.0 ∙ ap own_deque value in record {
       workers = was.workers;
+      made = search rules;
+      room = c.push_reserved.ensures.capacity ∙ was.room;
       places = map-set_same (λ it. it.place) ends at _ here (ap (λ it. it.place) value) ∙ was.places;
       deques = map-set_same own_deque ends at _ here (c.new.ensures.owner.0 ∙ ap own_deque value) ∙ was.deques;
       views = map-set_same own_view ends at _ here (c.new.ensures.owner.1 ∙ ap own_view value) ∙ was.views;
       others = map-set_same deques_of ends at _ here (ap deques_of value) ∙ was.others;
-      reaches = ap (map deque_of) c.in_ok-push.ensures.items ∙ map-append deque_of c.loop-place.reaches.items _ ∙ one_more own_deque ends _ _ (own_deque here) at here within (was.reaches ∙ ap (take at) (sym was.deques)) made ∙ ap (take (at + 1)) was.deques;
+      reaches = ap (map deque_of) c.push_reserved.ensures.items ∙ map-append deque_of c.loop-place.reaches.items _ ∙ one_more own_deque ends _ _ (own_deque here) at here within (was.reaches ∙ ap (take at) (sym was.deques)) made ∙ ap (take (at + 1)) was.deques;
     }

@@ -1,4 +1,4 @@
-use Rattle.std.proofs.Common.{rules, ◌≡◌, List, Result, Err, inl, inr, sym, ap, ◌∙◌}
+use Rattle.std.proofs.Common.{◌≡◌, List, Result, Err, inl, inr, sym, ap, ◌∙◌}
 use Rattle.model_accesses.specs.declared.request.Request.{Request}
 use Rattle.model_histories.specs.declared.reply.Receipt.{Receipt}
 use Rattle.model_histories.specs.declared.fault.GateFault.{GateFault}
@@ -7,7 +7,7 @@ use Rattle.locked_replay.specs.declared.fault.RunFault.{RunFault}
 use Rattle.locked_replay.specs.declared.fault.RunFault.TheVariants.{Torn, Strange}
 use Rattle.steal_workers.specs.Faults.{fault_of}
 use Rattle.steal_workers.specs.Workers.{AsksFor, KeepsReceipt}
-use Rattle.steal_workers.proofs.Asking.{on_ok, ends_at_join}
+use Rattle.steal_workers.proofs.Asking.{err_is, on_ok, ends_at_join}
 use Rattle.steal_workers.proofs.worker.Worker.step.Goals as goal
 
 pub returns-clause-asks : goal.returns-clause-asks
@@ -45,11 +45,11 @@ same_fault result fault other one two = cc
 pub returns-in_err-answer-clause-torn : goal.returns-in_err-answer-clause-torn
 returns-in_err-answer-clause-torn g c torn =
     let fault = c.in_err-answer.field-0.0 in
-    let told : c.from_residual-in_err-answer.result ≡ Err fault = search rules in
+    let told : c.from_residual-in_err-answer.result ≡ Err fault = err_is _ fault c.from_residual-in_err-answer.ensures.1 in
     asked_torn _ _ _ fault c.in_err-answer.ensures.kept (same_fault _ fault Torn told torn)
 
 pub returns-in_err-next-clause-torn : goal.returns-in_err-next-clause-torn
 returns-in_err-next-clause-torn g c torn =
     let fault = c.in_err-next.field-0.0 in
-    let told : c.from_residual.result ≡ Err fault = search rules in
+    let told : c.from_residual.result ≡ Err fault = err_is _ fault c.from_residual.ensures.1 in
     absurd (c.in_err-next.ensures.err (same_fault _ fault Torn told torn))
