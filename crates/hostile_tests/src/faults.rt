@@ -31,28 +31,53 @@ fn third(why: Cause) -> TextFault {
     TextFault::At { line: 3, why }
 }
 
+/// The same of a fault that is made for it.
+fn check_made(
+    rt: &impl Abort,
+    alloc: Global,
+    fault: CliFault,
+    text: &str,
+    status: u8,
+) -> Result<(), Fail> {
+    check_told(rt, alloc, &fault, text, status)
+}
+
 /// Each fault with its text and status, as docs/FORMATS.md has them.
 macro_rules! told {
-    ($rt:ident; $($fault:expr => $text:literal, $status:literal;)*) => {
-        $(check_told(&$rt, $rt.alloc(), &$fault, $text, $status)?;)*
+    ($rt:ident, $alloc:ident; $($fault:expr => $text:literal, $status:literal;)*) => {
+        $(check_made($rt, $alloc, $fault, $text, $status)?;)*
     };
 }
 
-#[test]
-fn each_fault_has_its_text_and_status(rt: HostRuntime) -> Result<(), Fail> {
-    let words = "no such option".to_string(rt.alloc())?;
-    told! { rt;
+/// Faults of the arguments, of what is read and of what is written.
+fn check_streams(rt: &impl Abort, alloc: Global) -> Result<(), Fail> {
+    let words = "no such option".to_string(alloc)?;
+    told! { rt, alloc;
         CliFault::Usage(words) => "no such option", 2;
         CliFault::Read => "read", 2;
         CliFault::Write => "write", 2;
         CliFault::Unwritten => "cannot write OUT", 2;
         CliFault::TooLong => "too long", 2;
+    }
+    Ok(())
+}
+
+/// Faults of texts.
+fn check_texts(rt: &impl Abort, alloc: Global) -> Result<(), Fail> {
+    told! { rt, alloc;
         CliFault::Trace(third(Cause::BadWord)) => "trace line 3: BadWord", 2;
         CliFault::Trace(TextFault::Memory) => "trace memory", 3;
         CliFault::Program(third(Cause::BadNesting)) => "program line 3: BadNesting", 2;
         CliFault::Program(TextFault::Memory) => "program memory", 3;
         CliFault::Shape => "shape", 2;
         CliFault::Illegal(7) => "illegal request 7", 2;
+    }
+    Ok(())
+}
+
+/// Faults of runs, and limits.
+fn check_runs(rt: &impl Abort, alloc: Global) -> Result<(), Fail> {
+    told! { rt, alloc;
         CliFault::Limit => "limit", 4;
         CliFault::TooManyStrands => "too many strands to draw: 10000 at most", 4;
         CliFault::Stopped => "stopped", 4;
@@ -61,6 +86,13 @@ fn each_fault_has_its_text_and_status(rt: HostRuntime) -> Result<(), Fail> {
         CliFault::Memory => "memory", 3;
     }
     Ok(())
+}
+
+#[test]
+fn each_fault_has_its_text_and_status(rt: HostRuntime) -> Result<(), Fail> {
+    check_streams(&rt, rt.alloc())?;
+    check_texts(&rt, rt.alloc())?;
+    check_runs(&rt, rt.alloc())
 }
 
 /// A prank that a door plays to the workers of `run_text`, and the fault that is told.

@@ -92,6 +92,47 @@ fn lacks_memory(found: &Result<Whole<&Heap>, RunFault>) -> Option<bool> {
     }
 }
 
+/// The log of a worker who asks what PAIR asks. Its growth of this number is refused.
+fn ask_refused<'h, L: Ledger, R: Wait>(
+    rt: &R,
+    heap: &'h Heap,
+    locked: &LockedGate<L, &'h Heap>,
+    mut seat: Seat<L>,
+    number: u64,
+) -> Option<(WorkerLog<L, &'h Heap>, Found)> {
+    let mut receipts = Receipts::new(heap);
+    heap.refuse(number);
+    let is_told = ask_pair(rt, locked, &mut seat, &mut receipts)?;
+    let was_refused = heap.has_refused();
+    heap.refuse(0);
+    let found = Found {
+        was_refused,
+        is_told,
+    };
+    Some((WorkerLog { seat, receipts }, found))
+}
+
+/// What is found where PAIR's run is gathered of its log. Its growth of this number is refused.
+fn gather_refused<'h, L: Ledger>(
+    heap: &'h Heap,
+    program: &Program<&'h Heap>,
+    locked: LockedGate<L, &'h Heap>,
+    log: WorkerLog<L, &'h Heap>,
+    number: u64,
+) -> Option<Found> {
+    let mut logs = Vec::with_capacity(heap, 1).ok()?;
+    logs.push_reserved(log);
+    heap.refuse(number);
+    let gathered = gather(heap, program, locked, logs);
+    let was_refused = heap.has_refused();
+    heap.refuse(0);
+    let is_told = lacks_memory(&gathered)?;
+    Some(Found {
+        was_refused,
+        is_told,
+    })
+}
+
 /// PAIR's run is asked and gathered. Its growth of this number is refused, while it is asked or while it is gathered.
 fn gathers<L: Ledger, R: Wait>(
     rt: &R,
@@ -111,28 +152,12 @@ fn gathers<L: Ledger, R: Wait>(
     heap.refuse(0);
     let program = Program::parse(heap, PAIR).ok()?;
     let gate = gate_for(heap, &program).ok()?;
-    let (locked, mut seat) = LockedGate::<L, &Heap>::new(gate, blank, 1);
-    let mut receipts = Receipts::new(heap);
-    heap.refuse(asking);
-    let lacks_asking = ask_pair(rt, &locked, &mut seat, &mut receipts)?;
-    let refused_asking = heap.has_refused();
-    heap.refuse(0);
-    let mut logs = Vec::with_capacity(heap, 1).ok()?;
-    logs.push_reserved(WorkerLog { seat, receipts });
-    heap.refuse(gathering);
-    let gathered = gather(heap, &program, locked, logs);
-    let refused_gathering = heap.has_refused();
-    heap.refuse(0);
-    let lacks_gathering = lacks_memory(&gathered)?;
+    let (locked, seat) = LockedGate::<L, &Heap>::new(gate, blank, 1);
+    let (log, asked) = ask_refused(rt, heap, &locked, seat, asking)?;
+    let gathered = gather_refused(heap, &program, locked, log, gathering)?;
     match call {
-        Call::Ask => (!lacks_gathering).then_some(Found {
-            was_refused: refused_asking,
-            is_told: lacks_asking,
-        }),
-        Call::Gather => (!lacks_asking).then_some(Found {
-            was_refused: refused_gathering,
-            is_told: lacks_gathering,
-        }),
+        Call::Ask => (!gathered.is_told).then_some(asked),
+        Call::Gather => (!asked.is_told).then_some(gathered),
     }
 }
 

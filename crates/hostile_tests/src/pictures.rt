@@ -5,6 +5,7 @@ ghost use Rattle.std.specs.Prelude.{◌<◌};
 
 use std::alloc::{AllocError, Global};
 use std::fmt::Write;
+use std::process::Abort;
 use std::test::Fail;
 use tool_commands::{CliFault, Form, Watched, draw_text};
 
@@ -50,11 +51,9 @@ fn noted_trace(alloc: Global, reads: u32) -> Result<String, AllocError> {
 
 /// The head of a picture of this size: its title has the 100 lines that are shown.
 fn head(alloc: Global, width: u32, height: u32) -> Result<String, AllocError> {
-    let mut text = String::from_str(alloc, "<svg xmlns=\"http://www.w3.org/2000/svg\"")?;
-    write!(text, " width=\"{width}\" height=\"{height}\"")?;
-    write!(text, " viewBox=\"0 0 {width} {height}\">\n")?;
-    text.push_str(STYLE)?;
-    text.push_str(TITLE)?;
+    let mut text = format!(in alloc;
+        "<svg xmlns=\"http://www.w3.org/2000/svg\" width=\"{width}\" height=\"{height}\" viewBox=\"0 0 {width} {height}\">\n{STYLE}{TITLE}"
+    )?;
     push_often(&mut text, "<tspan x=\"16\" dy=\"16\">more</tspan>", 98)?;
     text.push_str("</text>\n")?;
     Ok(text)
@@ -82,11 +81,12 @@ fn push_access(text: &mut String, x: u32, access: &str, name: &str) -> Result<()
 fn push_reads(text: &mut String, x: u32, has_more: bool) -> Result<(), AllocError> {
     push_function(text, x, 0)?;
     for read in 0..12u32 {
-        if read < 7 {
-            push_access(text, x, "f.c:1 read", NAME)?;
+        let (access, name) = if read < 7 {
+            ("f.c:1 read", NAME)
         } else {
-            push_access(text, x, "f.c:10 read", CUT)?;
-        }
+            ("f.c:10 read", CUT)
+        };
+        push_access(text, x, access, name)?;
     }
     if has_more {
         push_line(text, x, "and 1 more")?;
@@ -110,36 +110,37 @@ fn is_drawn(alloc: Global, trace: &str, status: u8, wanted: &str) -> bool {
     }
 }
 
-/// The picture of the trace of one strand that reads twelve times: its box has 13 lines.
-fn twelve_reads(alloc: Global) -> Result<String, AllocError> {
-    let mut wanted = head(alloc, 992, 1984)?;
-    wanted.push_str(
-        "<g id=\"strand-0\">\n<rect x=\"16\" y=\"1696\" width=\"528\" height=\"216\"/>\n<text y=\"1696\">",
+/// The picture of the trace of one strand: its box has 13 lines, or the 14 that there is room for where it has more reads than are told.
+fn box_of_reads(alloc: Global, has_more: bool) -> Result<String, AllocError> {
+    let more = if has_more { 16u32 } else { 0 };
+    let mut wanted = head(alloc, 992, 1984 + more)?;
+    let height = 216 + more;
+    write!(
+        wanted,
+        "<g id=\"strand-0\">\n<rect x=\"16\" y=\"1696\" width=\"528\" height=\"{height}\"/>\n<text y=\"1696\">"
     )?;
-    push_reads(&mut wanted, 24, false)?;
+    push_reads(&mut wanted, 24, has_more)?;
     wanted.push_str("</svg>\n")?;
     Ok(wanted)
 }
 
-/// That of thirteen reads: its box has the 14 lines that there is room for.
-fn thirteen_reads(alloc: Global) -> Result<String, AllocError> {
-    let mut wanted = head(alloc, 992, 2000)?;
-    wanted.push_str(
-        "<g id=\"strand-0\">\n<rect x=\"16\" y=\"1696\" width=\"528\" height=\"232\"/>\n<text y=\"1696\">",
-    )?;
-    push_reads(&mut wanted, 24, true)?;
-    wanted.push_str("</svg>\n")?;
-    Ok(wanted)
+/// The picture of so many reads is this one.
+fn check_reads(
+    rt: &impl Abort,
+    alloc: Global,
+    reads: u32,
+    has_more: bool,
+) -> Result<(), AllocError> {
+    let trace = noted_trace(alloc, reads)?;
+    let wanted = box_of_reads(alloc, has_more)?;
+    assert!(rt; is_drawn(alloc, trace.as_str(), 0, wanted.as_str()));
+    Ok(())
 }
 
 #[test]
 fn accesses_lines_and_characters(rt: HostRuntime) -> Result<(), Fail> {
-    let trace = noted_trace(rt.alloc(), 5)?;
-    let wanted = twelve_reads(rt.alloc())?;
-    assert!(rt; is_drawn(rt.alloc(), trace.as_str(), 0, wanted.as_str()));
-    let trace = noted_trace(rt.alloc(), 6)?;
-    let wanted = thirteen_reads(rt.alloc())?;
-    assert!(rt; is_drawn(rt.alloc(), trace.as_str(), 0, wanted.as_str()));
+    check_reads(&rt, rt.alloc(), 5, false)?;
+    check_reads(&rt, rt.alloc(), 6, true)?;
     Ok(())
 }
 
@@ -168,15 +169,12 @@ struct End {
 
 /// Adds an edge.
 fn push_edge(text: &mut String, kind: &str, from: End, to: End) -> Result<(), AllocError> {
-    let (one, other) = (from.strand, to.strand);
+    let (one, x1, y1) = (from.strand, from.x, from.y);
+    let (other, x2, y2) = (to.strand, to.x, to.y);
     write!(
         text,
-        "<line class=\"{kind}\" data-from=\"{one}\" data-to=\"{other}\""
-    )?;
-    let (x, y) = (from.x, from.y);
-    write!(text, " x1=\"{x}\" y1=\"{y}\"")?;
-    let (x, y) = (to.x, to.y);
-    write!(text, " x2=\"{x}\" y2=\"{y}\"/>\n")
+        "<line class=\"{kind}\" data-from=\"{one}\" data-to=\"{other}\" x1=\"{x1}\" y1=\"{y1}\" x2=\"{x2}\" y2=\"{y2}\"/>\n"
+    )
 }
 
 /// The top of a level.
@@ -190,8 +188,9 @@ fn top(level: u32) -> u32
 const FIRST_EDGES: &str =
     "<line class=\"child\" data-from=\"0\" data-to=\"1\" x1=\"560\" y1=\"1696\" x2=\"280\" y2=\"2000\"/>\n<line class=\"next\" data-from=\"0\" data-to=\"2\" x1=\"560\" y1=\"1696\" x2=\"840\" y2=\"2000\"/>\n<line class=\"join\" data-from=\"1\" data-to=\"3\" x1=\"280\" y1=\"2000\" x2=\"560\" y2=\"2304\"/>\n<line class=\"join\" data-from=\"2\" data-to=\"3\" x1=\"840\" y1=\"2000\" x2=\"560\" y2=\"2304\"/>\n<line class=\"child\" data-from=\"3\" data-to=\"4\" x1=\"560\" y1=\"2304\" x2=\"280\" y2=\"2608\"/>\n<line class=\"next\" data-from=\"3\" data-to=\"5\" x1=\"560\" y1=\"2304\" x2=\"840\" y2=\"2608\"/>\n<line class=\"child\" data-from=\"5\" data-to=\"7\" x1=\"840\" y1=\"2608\" x2=\"280\" y2=\"2912\"/>\n<line class=\"next\" data-from=\"5\" data-to=\"8\" x1=\"840\" y1=\"2608\" x2=\"840\" y2=\"2912\"/>\n";
 
-/// Adds the edges of the chain's spawns: each spawner stands on the right of its level.
-fn push_chain(text: &mut String) -> Result<(), AllocError> {
+/// Adds the edges, those of the chain's spawns last: each spawner stands on the right of its level.
+fn push_edges(text: &mut String) -> Result<(), AllocError> {
+    text.push_str(FIRST_EDGES)?;
     for half in 4..5_000u32 {
         let spawner = End {
             strand: 2 * half,
@@ -218,12 +217,7 @@ fn push_chain(text: &mut String) -> Result<(), AllocError> {
 fn push_box(text: &mut String, strand: u32, left: u32, x: u32, y: u32) -> Result<(), AllocError> {
     write!(
         text,
-        "<g id=\"strand-{strand}\">\n<rect x=\"{left}\" y=\"{y}\""
-    )?;
-    write!(text, " width=\"528\" height=\"24\"/>\n<text y=\"{y}\">")?;
-    write!(
-        text,
-        "<tspan x=\"{x}\" dy=\"16\">{strand}</tspan></text>\n</g>\n"
+        "<g id=\"strand-{strand}\">\n<rect x=\"{left}\" y=\"{y}\" width=\"528\" height=\"24\"/>\n<text y=\"{y}\"><tspan x=\"{x}\" dy=\"16\">{strand}</tspan></text>\n</g>\n"
     )
 }
 
@@ -231,31 +225,35 @@ fn push_box(text: &mut String, strand: u32, left: u32, x: u32, y: u32) -> Result
 fn push_writer(text: &mut String, strand: u32, left: u32, x: u32) -> Result<(), AllocError> {
     write!(
         text,
-        "<g id=\"strand-{strand}\">\n<rect x=\"{left}\" y=\"2608\""
-    )?;
-    text.push_str(" width=\"528\" height=\"40\"/>\n<text y=\"2608\">")?;
-    push_function(text, x, strand)?;
-    push_access(text, x, "f.c:1 write", CUT)?;
-    text.push_str("</text>\n</g>\n")
+        "<g id=\"strand-{strand}\">\n<rect x=\"{left}\" y=\"2608\" width=\"528\" height=\"40\"/>\n<text y=\"2608\"><tspan x=\"{x}\" dy=\"16\">{strand} in {FUNCTION}</tspan><tspan x=\"{x}\" dy=\"16\">f.c:1 write {CUT}</tspan></text>\n</g>\n"
+    )
 }
+
+/// The begin of the first strand's box.
+const FIRST_BOX: &str =
+    "<g id=\"strand-0\">\n<rect x=\"296\" y=\"1696\" width=\"528\" height=\"232\"/>\n<text y=\"1696\">";
+
+/// The boxes of strands 1 to 3.
+const BEFORE_WRITERS: &str =
+    "<g id=\"strand-1\">\n<rect x=\"16\" y=\"2000\" width=\"528\" height=\"24\"/>\n<text y=\"2000\"><tspan x=\"24\" dy=\"16\">1</tspan></text>\n</g>\n<g id=\"strand-2\">\n<rect x=\"576\" y=\"2000\" width=\"528\" height=\"24\"/>\n<text y=\"2000\"><tspan x=\"584\" dy=\"16\">2</tspan></text>\n</g>\n<g id=\"strand-3\">\n<rect x=\"296\" y=\"2304\" width=\"528\" height=\"24\"/>\n<text y=\"2304\"><tspan x=\"304\" dy=\"16\">3</tspan></text>\n</g>\n";
+
+/// The boxes of strands 7 and 8.
+const BEHIND_WRITERS: &str =
+    "<g id=\"strand-7\">\n<rect x=\"16\" y=\"2912\" width=\"528\" height=\"24\"/>\n<text y=\"2912\"><tspan x=\"24\" dy=\"16\">7</tspan></text>\n</g>\n<g id=\"strand-8\">\n<rect x=\"576\" y=\"2912\" width=\"528\" height=\"24\"/>\n<text y=\"2912\"><tspan x=\"584\" dy=\"16\">8</tspan></text>\n</g>\n";
 
 /// Adds the boxes before the chain.
 fn push_first_boxes(text: &mut String) -> Result<(), AllocError> {
-    text.push_str(
-        "<g id=\"strand-0\">\n<rect x=\"296\" y=\"1696\" width=\"528\" height=\"232\"/>\n<text y=\"1696\">",
-    )?;
+    text.push_str(FIRST_BOX)?;
     push_reads(text, 304, true)?;
-    push_box(text, 1, 16, 24, 2000)?;
-    push_box(text, 2, 576, 584, 2000)?;
-    push_box(text, 3, 296, 304, 2304)?;
+    text.push_str(BEFORE_WRITERS)?;
     push_writer(text, 4, 16, 24)?;
     push_writer(text, 5, 576, 584)?;
-    push_box(text, 7, 16, 24, 2912)?;
-    push_box(text, 8, 576, 584, 2912)
+    text.push_str(BEHIND_WRITERS)
 }
 
-/// Adds the boxes of the chain.
+/// Adds the boxes, those of the chain last.
 fn push_boxes(text: &mut String) -> Result<(), AllocError> {
+    push_first_boxes(text)?;
     for half in 4..5_000u32 {
         push_box(text, 2 * half + 1, 16, 24, top(half + 1))?;
         push_box(text, 2 * half + 2, 576, 584, top(half + 1))?;
@@ -266,15 +264,11 @@ fn push_boxes(text: &mut String) -> Result<(), AllocError> {
 /// The picture of the chain that begins as many strands as are drawn, on 5,001 levels.
 fn largest_picture(alloc: Global) -> Result<String, AllocError> {
     let mut wanted = head(alloc, 1136, 1_522_000)?;
-    wanted.push_str(FIRST_EDGES)?;
-    push_chain(&mut wanted)?;
-    push_first_boxes(&mut wanted)?;
+    push_edges(&mut wanted)?;
     push_boxes(&mut wanted)?;
-    wanted.push_str("<g class=\"race\" data-from=\"4\" data-to=\"5\">\n")?;
-    wanted.push_str("<path d=\"M 280 2608 C 280 2584 840 2584 840 2608\"/>\n")?;
     write!(
         wanted,
-        "<text x=\"560\" y=\"2584\">write-write on {NAME}</text>\n</g>\n</svg>\n"
+        "<g class=\"race\" data-from=\"4\" data-to=\"5\">\n<path d=\"M 280 2608 C 280 2584 840 2584 840 2608\"/>\n<text x=\"560\" y=\"2584\">write-write on {NAME}</text>\n</g>\n</svg>\n"
     )?;
     Ok(wanted)
 }

@@ -166,6 +166,19 @@ fn run_and_gather<
     gather(alloc, program, locked, logs)
 }
 
+/// Whether there is no memory for a run by so many workers.
+fn lacks_run<R: Threads + Wait + Sync>(
+    rt: &R,
+    heap: &Heap,
+    program: &Program<Global>,
+    workers: usize,
+) -> Option<bool>
+    requires { (0 < workers) × (workers ≤ 64) }
+{
+    let run = run_and_gather::<Brand, &Heap, R>(rt, heap, program, workers, Blank::new(PARTS));
+    lacks_memory(&run)
+}
+
 /// Runs by so many workers, and once more with all memory.
 fn run_twice<R: Threads + Wait + Sync>(
     rt: &R,
@@ -178,12 +191,10 @@ fn run_twice<R: Threads + Wait + Sync>(
 {
     let program = Program::parse(alloc, SMALL_FIB).ok()?;
     heap.refuse(number);
-    let first = run_and_gather::<Brand, &Heap, R>(rt, heap, &program, workers, Blank::new(PARTS));
+    let is_told = lacks_run(rt, heap, &program, workers)?;
     let was_refused = heap.has_refused();
     heap.refuse(0);
-    let again = run_and_gather::<Brand, &Heap, R>(rt, heap, &program, workers, Blank::new(PARTS));
-    let is_told = lacks_memory(&first)?;
-    (lacks_memory(&again) == Some(false)).then_some(Found {
+    (lacks_run(rt, heap, &program, workers) == Some(false)).then_some(Found {
         was_refused,
         is_told,
     })
@@ -219,13 +230,13 @@ fn run_serially_twice(alloc: Global, heap: &Heap, number: u64) -> Option<Found> 
 const REPORT: &[u8] =
     b"{\"clean\":true,\"entries\":65,\"memory\":{\"x\":5},\"refusals\":[],\"schedules\":\"clean for every schedule\"}\n";
 
-/// Whether there is no memory for the command, which writes nothing then.
-fn lacks_command<R: Threads + Wait + Sync>(
+/// What the command answers and writes.
+fn perform<R: Threads + Wait + Sync>(
     rt: &R,
     alloc: Global,
     heap: &Heap,
     workers: usize,
-) -> Option<bool>
+) -> (Result<u8, CliFault>, Vec<u8>)
     requires { (0 < workers) × (workers ≤ 64) }
 {
     let mut program = Watched::new(SMALL_FIB);
@@ -240,7 +251,19 @@ fn lacks_command<R: Threads + Wait + Sync>(
         &mut output,
         1_000_000,
     );
-    let told = output.into_inner();
+    (answer, output.into_inner())
+}
+
+/// Whether there is no memory for the command, which writes nothing then.
+fn lacks_command<R: Threads + Wait + Sync>(
+    rt: &R,
+    alloc: Global,
+    heap: &Heap,
+    workers: usize,
+) -> Option<bool>
+    requires { (0 < workers) × (workers ≤ 64) }
+{
+    let (answer, told) = perform(rt, alloc, heap, workers);
     match answer {
         Ok(status) => (status == 0 && told.as_slice() == REPORT).then_some(false),
         Err(CliFault::Memory) => told.is_empty().then_some(true),
