@@ -120,7 +120,9 @@ fn gather_refused<'h, L: Ledger>(
     log: WorkerLog<L, &'h Heap>,
     number: u64,
 ) -> Option<Found> {
-    let mut logs = Vec::with_capacity(heap, 1).ok()?;
+    let Ok(mut logs) = Vec::with_capacity(heap, 1) else {
+        return None;
+    };
     logs.push_reserved(log);
     heap.refuse(number);
     let gathered = gather(heap, program, locked, logs);
@@ -150,8 +152,12 @@ fn gathers<L: Ledger, R: Wait>(
         Call::Gather => (0, number),
     };
     heap.refuse(0);
-    let program = Program::parse(heap, PAIR).ok()?;
-    let gate = gate_for(heap, &program).ok()?;
+    let Ok(program) = Program::parse(heap, PAIR) else {
+        return None;
+    };
+    let Ok(gate) = gate_for(heap, &program) else {
+        return None;
+    };
     let (locked, seat) = LockedGate::<L, &Heap>::new(gate, blank, 1);
     let (log, asked) = ask_refused(rt, heap, &locked, seat, asking)?;
     let gathered = gather_refused(heap, &program, locked, log, gathering)?;

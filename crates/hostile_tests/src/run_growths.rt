@@ -104,9 +104,15 @@ fn meet_in<'h, 'p, R: Wait>(
     comes: Comes,
 ) -> Option<Found> {
     let lot = Lot::new(heap);
-    let task = make_root(heap, program).ok()?;
-    let again = make_root(heap, program).ok()?;
-    let other = make_root(heap, program).ok()?;
+    let Ok(task) = make_root(heap, program) else {
+        return None;
+    };
+    let Ok(again) = make_root(heap, program) else {
+        return None;
+    };
+    let Ok(other) = make_root(heap, program) else {
+        return None;
+    };
     heap.refuse(number);
     let first = come_first(rt, &lot, comes, task);
     let was_refused = heap.has_refused();
@@ -125,7 +131,9 @@ fn meet_in<'h, 'p, R: Wait>(
 
 /// As [`meet_in`], of a small program.
 fn meet<R: Wait>(rt: &R, alloc: Global, heap: &Heap, number: u64, comes: Comes) -> Option<Found> {
-    let program = Program::parse(alloc, SMALL_FIB).ok()?;
+    let Ok(program) = Program::parse(alloc, SMALL_FIB) else {
+        return None;
+    };
     meet_in(rt, heap, &program, number, comes)
 }
 
@@ -189,7 +197,9 @@ fn run_twice<R: Threads + Wait + Sync>(
 ) -> Option<Found>
     requires { (0 < workers) × (workers ≤ 64) }
 {
-    let program = Program::parse(alloc, SMALL_FIB).ok()?;
+    let Ok(program) = Program::parse(alloc, SMALL_FIB) else {
+        return None;
+    };
     heap.refuse(number);
     let is_told = lacks_run(rt, heap, &program, workers)?;
     let was_refused = heap.has_refused();
@@ -215,7 +225,9 @@ fn lacks_serially(heap: &Heap, program: &Program<Global>) -> Option<bool> {
 
 /// Runs in the serial order, and once more with all memory.
 fn run_serially_twice(alloc: Global, heap: &Heap, number: u64) -> Option<Found> {
-    let program = Program::parse(alloc, SMALL_FIB).ok()?;
+    let Ok(program) = Program::parse(alloc, SMALL_FIB) else {
+        return None;
+    };
     heap.refuse(number);
     let is_told = lacks_serially(heap, &program)?;
     let was_refused = heap.has_refused();
