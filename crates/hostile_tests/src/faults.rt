@@ -26,68 +26,62 @@ fn check_told<A: Abort>(
     Ok(())
 }
 
-/// A fault of a text at its third line.
-fn third(why: Cause) -> TextFault {
-    TextFault::At { line: 3, why }
-}
-
-/// The same of a fault that is made for it.
-fn check_made(
-    rt: &impl Abort,
-    alloc: Global,
-    fault: CliFault,
-    text: &str,
-    status: u8,
-) -> Result<(), Fail> {
-    check_told(rt, alloc, &fault, text, status)
-}
-
-/// Each fault with its text and status, as docs/FORMATS.md has them.
-macro_rules! told {
-    ($rt:ident, $alloc:ident; $($fault:expr => $text:literal, $status:literal;)*) => {
-        $(check_made($rt, $alloc, $fault, $text, $status)?;)*
-    };
+/// Each fault has its text and status.
+fn check_each(rt: &impl Abort, alloc: Global, faults: &[(CliFault, &str, u8)]) -> Result<(), Fail> {
+    for (fault, text, status) in faults {
+        check_told(rt, alloc, fault, text, *status)?;
+    }
+    Ok(())
 }
 
 /// Faults of the arguments, of what is read and of what is written.
 fn check_streams(rt: &impl Abort, alloc: Global) -> Result<(), Fail> {
     let words = "no such option".to_string(alloc)?;
-    told! { rt, alloc;
-        CliFault::Usage(words) => "no such option", 2;
-        CliFault::Read => "read", 2;
-        CliFault::Write => "write", 2;
-        CliFault::Unwritten => "cannot write OUT", 2;
-        CliFault::TooLong => "too long", 2;
-    }
-    Ok(())
+    let faults = [
+        (CliFault::Usage(words), "no such option", 2),
+        (CliFault::Read, "read", 2),
+        (CliFault::Write, "write", 2),
+        (CliFault::Unwritten, "cannot write OUT", 2),
+        (CliFault::TooLong, "too long", 2),
+    ];
+    check_each(rt, alloc, &faults)
+}
+
+/// A fault of a text at its third line.
+fn third(why: Cause) -> TextFault {
+    TextFault::At { line: 3, why }
 }
 
 /// Faults of texts.
 fn check_texts(rt: &impl Abort, alloc: Global) -> Result<(), Fail> {
-    told! { rt, alloc;
-        CliFault::Trace(third(Cause::BadWord)) => "trace line 3: BadWord", 2;
-        CliFault::Trace(TextFault::Memory) => "trace memory", 3;
-        CliFault::Program(third(Cause::BadNesting)) => "program line 3: BadNesting", 2;
-        CliFault::Program(TextFault::Memory) => "program memory", 3;
-        CliFault::Shape => "shape", 2;
-        CliFault::Illegal(7) => "illegal request 7", 2;
-    }
-    Ok(())
+    let trace = CliFault::Trace(third(Cause::BadWord));
+    let program = CliFault::Program(third(Cause::BadNesting));
+    let faults = [
+        (trace, "trace line 3: BadWord", 2),
+        (CliFault::Trace(TextFault::Memory), "trace memory", 3),
+        (program, "program line 3: BadNesting", 2),
+        (CliFault::Program(TextFault::Memory), "program memory", 3),
+        (CliFault::Shape, "shape", 2),
+        (CliFault::Illegal(7), "illegal request 7", 2),
+    ];
+    check_each(rt, alloc, &faults)
 }
 
 /// Faults of runs, and limits.
 fn check_runs(rt: &impl Abort, alloc: Global) -> Result<(), Fail> {
-    told! { rt, alloc;
-        CliFault::Limit => "limit", 4;
-        CliFault::TooManyStrands => "too many strands to draw: 10000 at most", 4;
-        CliFault::Stopped => "stopped", 4;
-        CliFault::Torn => "torn", 4;
-        CliFault::Strange => "strange", 4;
-        CliFault::Memory => "memory", 3;
-    }
-    Ok(())
+    let most = "too many strands to draw: 10000 at most";
+    let faults = [
+        (CliFault::Limit, "limit", 4),
+        (CliFault::TooManyStrands, most, 4),
+        (CliFault::Stopped, "stopped", 4),
+        (CliFault::Torn, "torn", 4),
+        (CliFault::Strange, "strange", 4),
+        (CliFault::Memory, "memory", 3),
+    ];
+    check_each(rt, alloc, &faults)
 }
 
+/// Each fault has the text and status that docs/FORMATS.md gives.
 #[test]
 fn each_fault_has_its_text_and_status(rt: HostRuntime) -> Result<(), Fail> {
     check_streams(&rt, rt.alloc())?;
