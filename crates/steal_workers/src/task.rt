@@ -70,6 +70,7 @@ pub(crate) struct NextRequest {
 }
 
 /// What a frame asks next, on this strand.
+#[inline(always)]
 fn next_of<A: Allocator>(
     frame: &mut Frame<A>,
     program: &Program<Global>,
@@ -172,6 +173,7 @@ impl<'p, A: Allocator> Task<'p, A> {
     ghost use Rattle.steal_workers.specs.Workers.{IsWanted};
 
     /// What the task asks next, with room for a call. Asked again before an answer, it asks the same.
+    #[inline(always)]
     pub(crate) fn next_request(&mut self) -> Result<NextRequest, RunFault>
         ensures strand { self.new.strand ≡ self.old.strand }
         ensures program { self.new.program ≡ self.old.program }
@@ -185,6 +187,7 @@ impl<'p, A: Allocator> Task<'p, A> {
     }
 
     /// The frame takes the answer to what it asked.
+    #[inline(always)]
     pub(crate) fn answer(&mut self, answer: &Answer) -> Result<(), RunFault>
         ensures strand { self.new.strand ≡ self.old.strand }
         ensures program { self.new.program ≡ self.old.program }
