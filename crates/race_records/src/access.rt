@@ -67,12 +67,10 @@ pub(crate) fn access_value(
 ) -> Result<Value, AllocError>
     ensures { IfOk result (λ value. view value ≡ access_told (setting_of scene.now) number side chain.now) }
 {
-    let within = within_value(alloc, scene, chain)?;
-    let place = place_value(alloc, scene, number)?;
     json!(in alloc; {
         "further": chain.len().saturating_sub(LINKS),
-        "place": place,
-        "within": within,
+        "place": place_value(alloc, scene, number)?,
+        "within": within_value(alloc, scene, chain)?,
         "word": side_word(side)
     })
 }

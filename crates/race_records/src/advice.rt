@@ -29,10 +29,11 @@ fn parting_value(
     let Some(parting) = parting else {
         return Ok(Value::Null);
     };
-    let child = line_value(alloc, scene, line_on(pair, refused, parting.by_child))?;
-    let next = line_value(alloc, scene, onward)?;
-    let spawn = place_value(alloc, scene, parting.entry)?;
-    json!(in alloc; {"child": child, "next": next, "spawn": spawn})
+    json!(in alloc; {
+        "child": line_value(alloc, scene, line_on(pair, refused, parting.by_child))?,
+        "next": line_value(alloc, scene, onward)?,
+        "spawn": place_value(alloc, scene, parting.entry)?
+    })
 }
 
 /// The spawn that is outstanding at one of two reads and not at the other.
@@ -48,10 +49,11 @@ fn outstanding_value(
     let Some(spawn) = spawn else {
         return Ok(Value::Null);
     };
-    let at = line_value(alloc, scene, line_on(pair, refused, spawn.parallel))?;
-    let not_at = line_value(alloc, scene, line_on(pair, refused, spawn.ordered))?;
-    let place = place_value(alloc, scene, spawn.entry)?;
-    json!(in alloc; {"at": at, "not_at": not_at, "spawn": place})
+    json!(in alloc; {
+        "at": line_value(alloc, scene, line_on(pair, refused, spawn.parallel))?,
+        "not_at": line_value(alloc, scene, line_on(pair, refused, spawn.ordered))?,
+        "spawn": place_value(alloc, scene, spawn.entry)?
+    })
 }
 
 /// Where the next strand of the spawn goes on.

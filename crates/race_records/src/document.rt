@@ -78,13 +78,12 @@ pub(crate) fn document_value(
     ensures { IfOk result (λ value. view value ≡ document_told (summary_parts summary) (view memory) (map view races.items)
         (map string_bytes recorded.now) (map view untold.items) (warned_parts warned.now)) }
 {
-    let recorded = texts_value(alloc, recorded)?;
     json!(in alloc; {
         "memory": memory,
         "outcome": outcome_word(summary.outcome),
         "pairs": size_or_null(summary.pairs),
         "races": races,
-        "recorded": recorded,
+        "recorded": texts_value(alloc, recorded)?,
         "refusals": summary.refusals,
         "requests": summary.requests,
         "traces": summary.traces,

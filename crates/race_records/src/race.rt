@@ -171,14 +171,11 @@ pub(crate) fn race_value(
 ) -> Result<Value, AllocError>
     ensures { IfOk result (λ value. view value ≡ race_told (race_parts race.now) (map (λ (name : Vec ℕ). name.items) names.now.keys) times group is_sure) }
 {
-    let locations = names_value(alloc, names)?;
-    let kind = kind_word(alloc, race.reason)?;
-    let help = help_of(race, is_sure);
     json!(in alloc; {
         "group": group,
-        "help": help,
-        "kind": kind,
-        "locations": locations,
+        "help": help_of(race, is_sure),
+        "kind": kind_word(alloc, race.reason)?,
+        "locations": names_value(alloc, names)?,
         "outstanding": &race.outstanding,
         "parting": &race.parting,
         "refused": &race.refused,

@@ -152,14 +152,11 @@ pub(crate) fn site_in<'b>(scene: &'b Scene<'_, '_>, line: u32) -> Site<'b>
 fn site_value(alloc: Global, site: Site<'_>) -> Result<Value, AllocError>
     ensures { IfOk result (λ value. view value ≡ parts_told (site_parts site.entry)) }
 {
-    let code = text_or_null(alloc, site.code)?;
-    let file = text_or_null(alloc, bytes_of(site.file))?;
-    let function = text_or_null(alloc, bytes_of(site.function))?;
     json!(in alloc; {
-        "code": code,
+        "code": text_or_null(alloc, site.code)?,
         "column": count_or_null(site.column),
-        "file": file,
-        "function": function,
+        "file": text_or_null(alloc, bytes_of(site.file))?,
+        "function": text_or_null(alloc, bytes_of(site.function))?,
         "line": count_or_null(site.line)
     })
 }

@@ -49,15 +49,12 @@ fn rendered_value(
 ) -> Result<Value, AllocError>
     ensures { IfOk result (λ value. view value ≡ fault_told file.now source.now fault rendered.now) }
 {
-    let rendered = text_value(alloc, rendered)?;
-    let code = text_value(alloc, source.line(fault.line))?;
-    let file = text_value(alloc, file.as_bytes())?;
     json!(in alloc; {
         "cause": cause_word(fault.why),
-        "code": code,
-        "file": file,
+        "code": text_value(alloc, source.line(fault.line))?,
+        "file": text_value(alloc, file.as_bytes())?,
         "line": fault.line,
-        "rendered": rendered
+        "rendered": text_value(alloc, rendered)?
     })
 }
 
@@ -152,17 +149,14 @@ fn request_value(
     ensures { IfOk result (λ value. view value ≡ request_told file.now source.now line number why rendered.now) }
 {
     let at = at_of(line);
-    let code = text_value(alloc, source.line(at))?;
-    let file = text_value(alloc, file.as_bytes())?;
-    let rendered = text_value(alloc, rendered)?;
     json!(in alloc; {
-        "code": code,
-        "file": file,
+        "code": text_value(alloc, source.line(at))?,
+        "file": text_value(alloc, file.as_bytes())?,
         "help": help_words(why),
         "line": at,
         "message": title_words(why),
         "outcome": "illegal",
-        "rendered": rendered,
+        "rendered": text_value(alloc, rendered)?,
         "request": number,
         "strand": strand_of(line),
         "version": 1_u8

@@ -62,9 +62,11 @@ fn warning_value(
     ensures { IfOk result (λ value. view value ≡ warning_told file.now source.now (contents program.now) warning) }
 {
     let title = title_of_warning(alloc, program, warning)?;
-    let message = text_value(alloc, title.as_slice())?;
-    let place = file_line_value(alloc, file, source, line_of_warning(warning))?;
-    json!(in alloc; {"message": message, "place": place, "rule": rule_word(warning)})
+    json!(in alloc; {
+        "message": text_value(alloc, title.as_slice())?,
+        "place": file_line_value(alloc, file, source, line_of_warning(warning))?,
+        "rule": rule_word(warning)
+    })
 }
 
 /// What is told of warnings.

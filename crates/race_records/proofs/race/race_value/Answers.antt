@@ -8,9 +8,9 @@ pub returns-in-Ok-json-22 : goal.returns-in-Ok-json-22
 returns-in-Ok-json-22 c =
     let none = no_member c.json-new.result c.json-new.ensures.empty in
     let group = next_member _ none c.in-Ok-json.ensures c.in-Ok-json-2.ensures.ok in
-    let help = next_member _ group (c.in-Ok-json-3.ensures ∙ c.help_of-help.ensures) c.in-Ok-json-4.ensures.ok in
-    let kind = next_member _ help (c.in-Ok-json-5.ensures ∙ ap string c.in_ok-kind.ensures) c.in-Ok-json-6.ensures.ok in
-    let locations = next_member _ kind (ap view c.in-Ok-json-7.ensures ∙ c.in_ok-locations.ensures) c.in-Ok-json-8.ensures.ok in
+    let help = next_member _ group (c.in-Ok-json-3.ensures ∙ c.help_of.ensures) c.in-Ok-json-4.ensures.ok in
+    let kind = next_member _ help (c.in-Ok-json-5.ensures ∙ ap string c.in_ok-kind_word.ensures) c.in-Ok-json-6.ensures.ok in
+    let locations = next_member _ kind (ap view c.in-Ok-json-7.ensures ∙ c.in_ok-names_value.ensures) c.in-Ok-json-8.ensures.ok in
     let outstanding = next_member _ locations c.in-Ok-json-9.ensures c.in-Ok-json-10.ensures.ok in
     let parting = next_member _ outstanding c.in-Ok-json-11.ensures c.in-Ok-json-12.ensures.ok in
     let refused = next_member _ parting c.in-Ok-json-13.ensures c.in-Ok-json-14.ensures.ok in

@@ -9,8 +9,8 @@ use Rattle.race_records.proofs.unjudged.request_value.Goals as goal
 pub returns-in-Ok-json-20 : goal.returns-in-Ok-json-20
 returns-in-Ok-json-20 c =
     let at = c.at_of-at.ensures in
-    let quoted = c.in_ok-code.ensures ∙ ap text_told (c.line.ensures ∙ ap (line_in c.args.source.now) at) in
-    let named = c.in_ok-file.ensures ∙ ap text_told c.as_bytes.ensures.value in
+    let quoted = c.in_ok-text_value.ensures ∙ ap text_told (c.line.ensures ∙ ap (line_in c.args.source.now) at) in
+    let named = c.in_ok-text_value-2.ensures ∙ ap text_told c.as_bytes.ensures.value in
     let none = no_member c.json-new.result c.json-new.ensures.empty in
     let code = next_member _ none (ap view c.in-Ok-json.ensures ∙ quoted) c.in-Ok-json-2.ensures.ok in
     let file = next_member _ code (ap view c.in-Ok-json-3.ensures ∙ named) c.in-Ok-json-4.ensures.ok in
@@ -18,7 +18,7 @@ returns-in-Ok-json-20 c =
     let line = next_member _ help (c.in-Ok-json-7.ensures ∙ ap count_told at) c.in-Ok-json-8.ensures.ok in
     let message = next_member _ line (c.in-Ok-json-9.ensures ∙ ap string c.title_words.ensures) c.in-Ok-json-10.ensures.ok in
     let outcome = next_member _ message c.in-Ok-json-11.ensures c.in-Ok-json-12.ensures.ok in
-    let rendered = next_member _ outcome (ap view c.in-Ok-json-13.ensures ∙ c.in_ok-rendered.ensures) c.in-Ok-json-14.ensures.ok in
+    let rendered = next_member _ outcome (ap view c.in-Ok-json-13.ensures ∙ c.in_ok-text_value-3.ensures) c.in-Ok-json-14.ensures.ok in
     let request = next_member _ rendered c.in-Ok-json-15.ensures c.in-Ok-json-16.ensures.ok in
     let strand = next_member _ request (c.in-Ok-json-17.ensures ∙ ap count_told c.strand_of.ensures) c.in-Ok-json-18.ensures.ok in
     let version = next_member _ strand c.in-Ok-json-19.ensures c.in-Ok-json-20.ensures.ok in
