@@ -117,10 +117,9 @@ fn notes_value(alloc: Global, document: &Value) -> Result<Value, AllocError>
 fn invocation_value(alloc: Global, document: &Value) -> Result<Value, AllocError>
     ensures { IfOk result (λ value. view value ≡ invocation_told (view document.now)) }
 {
-    let notes = notes_value(alloc, document)?;
     json!(in alloc; {
         "executionSuccessful": is_whole(document),
-        "toolExecutionNotifications": notes
+        "toolExecutionNotifications": notes_value(alloc, document)?
     })
 }
 
@@ -154,23 +153,18 @@ fn properties_value(alloc: Global, document: &Value) -> Result<Value, AllocError
 fn tool_value(alloc: Global) -> Result<Value, AllocError>
     ensures { IfOk result (λ value. view value ≡ tool_told) }
 {
-    let rules = rules_value(alloc)?;
-    json!(in alloc; {"driver": {"name": "cilkcheck", "rules": rules}})
+    json!(in alloc; {"driver": {"name": "cilkcheck", "rules": rules_value(alloc)?}})
 }
 
 /// The one run of a log.
 fn run_value(alloc: Global, document: &Value) -> Result<Value, AllocError>
     ensures { IfOk result (λ value. view value ≡ run_told (view document.now)) }
 {
-    let invocation = invocation_value(alloc, document)?;
-    let properties = properties_value(alloc, document)?;
-    let results = result_values(alloc, document)?;
-    let tool = tool_value(alloc)?;
     json!(in alloc; {
-        "invocations": [invocation],
-        "properties": properties,
-        "results": results,
-        "tool": tool
+        "invocations": [invocation_value(alloc, document)?],
+        "properties": properties_value(alloc, document)?,
+        "results": result_values(alloc, document)?,
+        "tool": tool_value(alloc)?
     })
 }
 
@@ -179,10 +173,9 @@ fn run_value(alloc: Global, document: &Value) -> Result<Value, AllocError>
 pub fn log_value(alloc: Global, document: &Value) -> Result<Value, AllocError>
     ensures { IfOk result (λ log. view log ≡ log_told (view document.now)) }
 {
-    let run = run_value(alloc, document)?;
     json!(in alloc; {
         "$schema": "https://json.schemastore.org/sarif-2.1.0.json",
-        "runs": [run],
+        "runs": [run_value(alloc, document)?],
         "version": "2.1.0"
     })
 }

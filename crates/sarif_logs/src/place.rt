@@ -100,12 +100,14 @@ fn region_value(
 {
     match (code, column) {
         (Some(code), Some(column)) => {
-            let snippet = text_value(alloc, code)?;
-            json!(in alloc; {"snippet": snippet, "startColumn": column, "startLine": line})
+            json!(in alloc; {
+                "snippet": text_value(alloc, code)?,
+                "startColumn": column,
+                "startLine": line
+            })
         }
         (Some(code), None) => {
-            let snippet = text_value(alloc, code)?;
-            json!(in alloc; {"snippet": snippet, "startLine": line})
+            json!(in alloc; {"snippet": text_value(alloc, code)?, "startLine": line})
         }
         (None, Some(column)) => json!(in alloc; {"startColumn": column, "startLine": line}),
         (None, None) => json!(in alloc; {"startLine": line}),
@@ -119,8 +121,10 @@ fn physical_value(alloc: Global, file: &str, place: &Place<'_>) -> Result<Value,
     let uri = uri(alloc, file)?;
     match place.line {
         Some(line) => {
-            let region = region_value(alloc, line, place.column, place.code)?;
-            json!(in alloc; {"artifactLocation": {"uri": uri}, "region": region})
+            json!(in alloc; {
+                "artifactLocation": {"uri": uri},
+                "region": region_value(alloc, line, place.column, place.code)?
+            })
         }
         None => json!(in alloc; {"artifactLocation": {"uri": uri}}),
     }
@@ -217,13 +221,17 @@ pub(crate) fn location_value(alloc: Global, place: &Place<'_>) -> Result<Value, 
     let functions = functions_value(alloc, place.function)?;
     match place.file {
         Some(file) => {
-            let physical = physical_value(alloc, file, place)?;
-            json!(in alloc; {"logicalLocations": functions, "physicalLocation": physical})
+            json!(in alloc; {
+                "logicalLocations": functions,
+                "physicalLocation": physical_value(alloc, file, place)?
+            })
         }
         None => {
             let words = place_words(alloc, place)?;
-            let message = text_value(alloc, words.as_str())?;
-            json!(in alloc; {"logicalLocations": functions, "message": message})
+            json!(in alloc; {
+                "logicalLocations": functions,
+                "message": text_value(alloc, words.as_str())?
+            })
         }
     }
 }
@@ -240,19 +248,20 @@ pub(crate) fn related_value(
     let functions = functions_value(alloc, place.function)?;
     match place.file {
         Some(file) => {
-            let physical = physical_value(alloc, file, place)?;
-            let message = text_value(alloc, words)?;
             json!(in alloc; {
                 "id": number,
                 "logicalLocations": functions,
-                "message": message,
-                "physicalLocation": physical
+                "message": text_value(alloc, words)?,
+                "physicalLocation": physical_value(alloc, file, place)?
             })
         }
         None => {
             let words = noted_words(alloc, words, place)?;
-            let message = text_value(alloc, words.as_str())?;
-            json!(in alloc; {"id": number, "logicalLocations": functions, "message": message})
+            json!(in alloc; {
+                "id": number,
+                "logicalLocations": functions,
+                "message": text_value(alloc, words.as_str())?
+            })
         }
     }
 }

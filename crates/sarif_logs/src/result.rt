@@ -27,10 +27,9 @@ fn result_value(
 ) -> Result<Value, AllocError>
     ensures { IfOk result (λ value. view value ≡ result_told rule (view message) (place_parts place.now) (map view related.items) (view properties) times) }
 {
-    let location = location_value(alloc, place)?;
     json!(in alloc; {
         "level": rule.level(),
-        "locations": [location],
+        "locations": [location_value(alloc, place)?],
         "message": message,
         "occurrenceCount": times,
         "properties": properties,
@@ -44,14 +43,12 @@ fn result_value(
 fn race_properties(alloc: Global, race: &Value) -> Result<Value, AllocError>
     ensures { IfOk result (λ value. view value ≡ race_properties (view race.now)) }
 {
-    let locations = member_at(alloc, race, "locations")?;
-    let spawn_line = member_at(alloc, race, "spawn_line")?;
     json!(in alloc; {
         "group": count_at(race, "group"),
         "kind": words_at(race, "kind"),
-        "locations": locations,
+        "locations": member_at(alloc, race, "locations")?,
         "refusedFurther": access_at(race, "refused").further,
-        "spawnLine": spawn_line,
+        "spawnLine": member_at(alloc, race, "spawn_line")?,
         "witnessFurther": access_at(race, "witness").further
     })
 }
@@ -130,8 +127,7 @@ fn quoted(alloc: Global, rendered: &str) -> Result<String, AllocError>
 fn told_twice(alloc: Global, words: &str, rendered: &str) -> Result<Value, AllocError>
     ensures { IfOk result (λ value. view value ≡ told_twice words.now rendered.now) }
 {
-    let markdown = quoted(alloc, rendered)?;
-    json!(in alloc; {"markdown": markdown, "text": words})
+    json!(in alloc; {"markdown": quoted(alloc, rendered)?, "text": words})
 }
 
 /// The title of a fault, as a sentence.

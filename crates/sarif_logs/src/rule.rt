@@ -214,16 +214,13 @@ fn first_named(rules: &[Rule], id: &str) -> Option<Rule>
 fn rule_value(alloc: Global, rule: Rule) -> Result<Value, AllocError>
     ensures { IfOk result (λ value. view value ≡ rule_told rule) }
 {
-    let summary = text_value(alloc, rule.summary())?;
-    let description = text_value(alloc, rule.description())?;
-    let help = text_value(alloc, rule.help())?;
     json!(in alloc; {
         "defaultConfiguration": {"level": rule.level()},
-        "fullDescription": description,
-        "help": help,
+        "fullDescription": text_value(alloc, rule.description())?,
+        "help": text_value(alloc, rule.help())?,
         "id": rule.id(),
         "name": rule.name(),
-        "shortDescription": summary
+        "shortDescription": text_value(alloc, rule.summary())?
     })
 }
 

@@ -9,7 +9,7 @@ pub returns-in-Ok-json-17 : goal.returns-in-Ok-json-17
 returns-in-Ok-json-17 c =
     let none = no_member c.json-new.result c.json-new.ensures.empty in
     let level = next_member _ none (c.in-Ok-json.ensures ∙ ap string c.level.ensures) c.in-Ok-json-2.ensures.ok in
-    let location = ap view c.in-Ok-json-3.ensures ∙ c.in_ok-location.ensures in
+    let location = ap view c.in-Ok-json-3.ensures ∙ c.in_ok-location_value.ensures in
     let one = one_item c.json-push.new.list _ c.json-new-2.ensures.items location c.in-Ok-json-4.ensures.ok in
     let locations = next_member _ level one c.in-Ok-json-5.ensures.ok in
     let message = next_member _ locations (ap view c.in-Ok-json-6.ensures) c.in-Ok-json-7.ensures.ok in
