@@ -10,7 +10,6 @@ use crate::part::Part;
 use crate::scene::{Scene, first_words, open_at};
 use crate::values::{bad_numbers, unknown_names};
 use crate::words::bad_words;
-use std::alloc::Allocator;
 use text_words::Cause;
 
 /// The most lines of a text.
@@ -35,8 +34,8 @@ fn may_stand(byte: u8) -> bool {
 }
 
 /// What is wrong with a line that has a byte that no line may hold.
-fn bad_byte<B: Allocator>(scene: &Scene<'_, '_, B>) -> (ByteMistake, Part) {
-    let line = scene.source.line(scene.number);
+fn bad_byte(scene: &Scene<'_, '_>) -> (ByteMistake, Part) {
+    let line = scene.line;
     let at = line.iter().position(|byte| !may_stand(*byte)).unwrap_or(0);
     let mistake = match line {
         [0xef, 0xbb, 0xbf, ..] if scene.number == 1 => ByteMistake::OrderMark,
@@ -56,17 +55,16 @@ fn comment_at(line: &[u8]) -> Option<usize> {
 }
 
 /// Whether a text is C or C++: such a source includes headers.
-fn is_source<B: Allocator>(scene: &Scene<'_, '_, B>) -> bool {
-    let lines = scene.source.as_slice();
-    lines.iter().any(|line| line.starts_with(b"#include"))
+fn is_source(scene: &Scene<'_, '_>) -> bool {
+    scene.lines.iter().any(|line| line.starts_with(b"#include"))
 }
 
 /// What stands in place of a header.
-fn before_header<B: Allocator>(scene: &Scene<'_, '_, B>) -> (HeaderMistake, Part) {
-    match scene.words {
-        [_, ..] => (HeaderMistake::Other, Part::Statement),
-        [] if scene.source.count() == 0 => (HeaderMistake::Empty, Part::Statement),
-        [] => match comment_at(scene.source.line(1)) {
+fn before_header(scene: &Scene<'_, '_>) -> (HeaderMistake, Part) {
+    match (scene.words, scene.lines) {
+        ([_, ..], _) => (HeaderMistake::Other, Part::Statement),
+        ([], []) => (HeaderMistake::Empty, Part::Statement),
+        ([], [first, ..]) => match comment_at(first) {
             Some(at) => (HeaderMistake::Comment, Part::Byte(at)),
             None => (HeaderMistake::Blank, Part::Statement),
         },
@@ -74,7 +72,7 @@ fn before_header<B: Allocator>(scene: &Scene<'_, '_, B>) -> (HeaderMistake, Part
 }
 
 /// What is wrong with a first line that is no header.
-fn bad_header<B: Allocator>(scene: &Scene<'_, '_, B>) -> (HeaderMistake, Part) {
+fn bad_header(scene: &Scene<'_, '_>) -> (HeaderMistake, Part) {
     match scene.words {
         ["cilk", "1" | "2", _, ..] => (HeaderMistake::Long, Part::Onward(2)),
         ["cilk", _, ..] => (HeaderMistake::Version, Part::Word(1)),
@@ -85,8 +83,8 @@ fn bad_header<B: Allocator>(scene: &Scene<'_, '_, B>) -> (HeaderMistake, Part) {
 }
 
 /// What is wrong behind the last line, where a function or an `if` is open.
-fn missing_end<B: Allocator>(scene: &Scene<'_, '_, B>) -> NestingMistake {
-    let lines = scene.source.as_slice();
+fn missing_end(scene: &Scene<'_, '_>) -> NestingMistake {
+    let lines = scene.lines;
     match open_at(lines) {
         Some(place) if first_words(lines[place]).0 == "if" => NestingMistake::OpenIf,
         Some(_) => NestingMistake::OpenFunction,
@@ -95,7 +93,7 @@ fn missing_end<B: Allocator>(scene: &Scene<'_, '_, B>) -> NestingMistake {
 }
 
 /// Which of two mistakes an `else` is.
-fn bad_else<B: Allocator>(scene: &Scene<'_, '_, B>) -> NestingMistake {
+fn bad_else(scene: &Scene<'_, '_>) -> NestingMistake {
     let before = scene.before();
     match open_at(before) {
         Some(place) if first_words(before[place]).0 == "if" => NestingMistake::SecondElse,
@@ -104,8 +102,8 @@ fn bad_else<B: Allocator>(scene: &Scene<'_, '_, B>) -> NestingMistake {
 }
 
 /// What is wrong with a line that may not stand where it does.
-fn bad_nesting<B: Allocator>(scene: &Scene<'_, '_, B>) -> NestingMistake {
-    if scene.number as usize > scene.source.count() {
+fn bad_nesting(scene: &Scene<'_, '_>) -> NestingMistake {
+    if scene.number as usize > scene.lines.len() {
         return missing_end(scene);
     }
     match scene.word(0) {
@@ -147,7 +145,7 @@ fn depth_of(function: &[&[u8]]) -> usize {
 }
 
 /// Which limit a line passes.
-fn passed_limit<B: Allocator>(scene: &Scene<'_, '_, B>) -> LimitMistake {
+fn passed_limit(scene: &Scene<'_, '_>) -> LimitMistake {
     if scene.number > MOST_LINES {
         return LimitMistake::Lines;
     }
@@ -167,7 +165,7 @@ fn passed_limit<B: Allocator>(scene: &Scene<'_, '_, B>) -> LimitMistake {
 }
 
 /// What is wrong with a line that has this cause.
-pub(crate) fn diagnose<B: Allocator>(scene: &Scene<'_, '_, B>, why: Cause) -> Diagnosis
+pub(crate) fn diagnose(scene: &Scene<'_, '_>, why: Cause) -> Diagnosis
     ensures { cause_of result.mistake ≡ why }
 {
     let (mistake, part) = match why {

@@ -72,8 +72,9 @@ pub fn fault_message<A: Allocator + Copy>(
     let look = Look::of(is_painted, &source);
     let words = words_of(alloc, source.line(number))?;
     let scene = Scene {
-        source: &source,
+        lines: source.as_slice(),
         number,
+        line: source.line(number),
         meant,
         words: words.as_slice(),
     };

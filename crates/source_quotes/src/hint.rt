@@ -2,9 +2,9 @@
 //! help is told.
 
 use crate::diagnosis::Diagnosis;
-use crate::form::{begins_behind, form_of};
-use crate::hint_names::{note_array, note_unknown};
-use crate::hint_words::{note_form, note_range, note_word};
+use crate::form::begins_behind;
+use crate::hint_names::note_unknown;
+use crate::hint_words::{note_element, note_form, note_range, note_word, wanted_at};
 use crate::look::Look;
 use crate::meant::Meant;
 use crate::mistake::{
@@ -14,7 +14,6 @@ use crate::near::Nearest;
 use crate::notes::Notes;
 use crate::part::Part;
 use crate::scene::{Scene, declared_at, first_words, open_at};
-use crate::shape::element;
 use std::alloc::{AllocError, Allocator};
 
 /// What to do about a byte that no line may hold.
@@ -76,30 +75,19 @@ fn note_header<A: Allocator>(notes: &mut Notes<A>, mistake: HeaderMistake, first
 }
 
 /// Notes what is known of a number that is none, or is out of range.
-fn note_number<A: Allocator, B: Allocator>(
+fn note_number<A: Allocator>(
     notes: &mut Notes<A>,
-    scene: &Scene<'_, '_, B>,
+    scene: &Scene<'_, '_>,
     mistake: NumberMistake,
     part: Part,
 ) {
-    let form = form_of(scene.meant, scene.word(0));
-    let wanted = match (form, part) {
-        (Some(form), Part::Word(at)) => form.place(at),
-        _ => None,
-    };
     match mistake {
         NumberMistake::Other => note_form(notes, scene),
         NumberMistake::Digits => {
             notes.add_help("write decimal digits alone, and spaces around each sign");
         }
-        NumberMistake::Range | NumberMistake::Mark => note_range(notes, wanted),
-        NumberMistake::Index => {
-            if let Part::Index(at) = part
-                && let Some((name, _)) = element(scene.word(at))
-            {
-                note_array(notes, scene, name);
-            }
-        }
+        NumberMistake::Range | NumberMistake::Mark => note_range(notes, wanted_at(scene, part)),
+        NumberMistake::Index => note_element(notes, scene, part),
     }
 }
 
@@ -107,19 +95,15 @@ fn note_number<A: Allocator, B: Allocator>(
 fn note_open<A: Allocator>(notes: &mut Notes<A>, before: &[&[u8]]) {
     match open_at(before) {
         Some(place) => {
-            notes.begin("the ");
-            notes.add_quoted(
-                first_words(before[place]).0,
-                " that is open here begins at line ",
-            );
-            notes.end_with_line(place);
+            let first = first_words(before[place]).0;
+            notes.add_place("the ", first, " that is open here begins at line ", place);
         }
         None => notes.add_note("no function is open here"),
     }
 }
 
 /// Notes the line with the first function or request.
-fn note_first<A: Allocator, B: Allocator>(notes: &mut Notes<A>, scene: &Scene<'_, '_, B>) {
+fn note_first<A: Allocator>(notes: &mut Notes<A>, scene: &Scene<'_, '_>) {
     let before = scene.before();
     let begun = before
         .iter()
@@ -150,9 +134,9 @@ fn nesting_help(mistake: NestingMistake) -> &'static str {
 }
 
 /// Notes what is known of a line that may not stand where it does.
-fn note_nesting<A: Allocator, B: Allocator>(
+fn note_nesting<A: Allocator>(
     notes: &mut Notes<A>,
-    scene: &Scene<'_, '_, B>,
+    scene: &Scene<'_, '_>,
     mistake: NestingMistake,
 ) {
     match mistake {
@@ -163,39 +147,34 @@ fn note_nesting<A: Allocator, B: Allocator>(
 }
 
 /// Notes a function that may have been meant to be `main`.
-fn note_main<A: Allocator, B: Allocator>(notes: &mut Notes<A>, scene: &Scene<'_, '_, B>) {
+fn note_main<A: Allocator>(notes: &mut Notes<A>, scene: &Scene<'_, '_>) {
     let mut nearest = Nearest::to("main");
-    for line in scene.source.as_slice() {
+    for line in scene.lines {
         let (first, second, _) = first_words(line);
         if first == "func" {
             nearest.offer(second);
         }
     }
     match nearest.nearest() {
-        Some(name) => {
-            notes.begin("help: write `main` in place of ");
-            notes.add_quoted(name, "\n");
-        }
+        Some(name) => notes.add_help_with("write `main` in place of `", name, "`\n"),
         None => notes.add_help("add the function with which the program begins: `func main z`"),
     }
 }
 
 /// Notes where a name was declared before.
-fn note_twice<A: Allocator, B: Allocator>(notes: &mut Notes<A>, scene: &Scene<'_, '_, B>) {
+fn note_twice<A: Allocator>(notes: &mut Notes<A>, scene: &Scene<'_, '_>) {
     let name = scene.word(1);
     if let Some(place) = declared_at(scene.before(), name) {
-        notes.begin("");
-        notes.add_quoted(name, " is declared at line ");
-        notes.end_with_line(place);
+        notes.add_place("", name, " is declared at line ", place);
     }
     notes.add_help("take another name for one of them");
 }
 
 /// What may help, a note a line.
-pub(crate) fn hint<A: Allocator, B: Allocator>(
+pub(crate) fn hint<A: Allocator>(
     alloc: A,
     look: Look,
-    scene: &Scene<'_, '_, B>,
+    scene: &Scene<'_, '_>,
     found: Diagnosis,
 ) -> Result<Vec<u8, A>, AllocError> {
     let mut notes = Notes::new(alloc, look);

@@ -10,34 +10,22 @@ use crate::shape::element;
 use std::alloc::Allocator;
 
 /// Notes what a name is declared as, and where.
-pub(crate) fn note_declared<A: Allocator, B: Allocator>(
-    notes: &mut Notes<A>,
-    scene: &Scene<'_, '_, B>,
-    name: &str,
-) {
-    let lines = scene.source.as_slice();
+pub(crate) fn note_declared<A: Allocator>(notes: &mut Notes<A>, scene: &Scene<'_, '_>, name: &str) {
+    let lines = scene.lines;
     let Some(place) = declared_at(lines, name) else {
         return;
     };
-    notes.begin("");
-    notes.add_quoted(
-        name,
-        match kind_of(lines[place]) {
-            Kind::Cell => " is one cell, declared at line ",
-            Kind::Array(_) => " is an array, declared at line ",
-            Kind::Reducer => " is a reducer, declared at line ",
-            Kind::Function => " is a function, declared at line ",
-        },
-    );
-    notes.end_with_line(place);
+    let declared = match kind_of(lines[place]) {
+        Kind::Cell => " is one cell, declared at line ",
+        Kind::Array(_) => " is an array, declared at line ",
+        Kind::Reducer => " is a reducer, declared at line ",
+        Kind::Function => " is a function, declared at line ",
+    };
+    notes.add_place("", name, declared, place);
 }
 
 /// Notes what an array is, and which of its cells can be named.
-pub(crate) fn note_array<A: Allocator, B: Allocator>(
-    notes: &mut Notes<A>,
-    scene: &Scene<'_, '_, B>,
-    name: &str,
-) {
+pub(crate) fn note_array<A: Allocator>(notes: &mut Notes<A>, scene: &Scene<'_, '_>, name: &str) {
     note_declared(notes, scene, name);
     if let Some(Kind::Array(length)) = scene.kind(name)
         && let Ok(length) = length.parse::<u64>()
@@ -69,14 +57,10 @@ fn first_of(sort: Sort) -> &'static str {
 }
 
 /// The name of this sort that comes nearest to a word, where one is near.
-fn nearest_name<'a, B: Allocator>(
-    scene: &Scene<'_, 'a, B>,
-    sort: Sort,
-    word: &str,
-) -> Option<&'a str> {
+fn nearest_name<'a>(scene: &Scene<'_, 'a>, sort: Sort, word: &str) -> Option<&'a str> {
     let mut nearest = Nearest::to(word);
     let wanted = first_of(sort);
-    for line in scene.source.as_slice() {
+    for line in scene.lines {
         let (first, second, _) = first_words(line);
         if first == wanted {
             nearest.offer(second);
@@ -86,7 +70,7 @@ fn nearest_name<'a, B: Allocator>(
 }
 
 /// The register of the function so far that comes nearest to a word, where one is near.
-fn nearest_register<'a, B: Allocator>(scene: &Scene<'_, 'a, B>, word: &str) -> Option<&'a str> {
+fn nearest_register<'a>(scene: &Scene<'_, 'a>, word: &str) -> Option<&'a str> {
     let mut nearest = Nearest::to(word);
     for line in scene.function() {
         if let Some(name) = register_of(line) {
@@ -112,49 +96,26 @@ fn sort_help(sort: Sort, meant: Meant) -> &'static str {
     }
 }
 
-/// Asks whether this word was meant.
-fn note_meant<A: Allocator>(notes: &mut Notes<A>, word: &str) {
-    notes.begin("help: did you mean ");
-    notes.add_quoted(word, "?\n");
-}
-
 /// Notes the name of a sort that was meant, or how one is declared.
-fn note_sort<A: Allocator, B: Allocator>(
-    notes: &mut Notes<A>,
-    scene: &Scene<'_, '_, B>,
-    sort: Sort,
-    name: &str,
-) {
+fn note_sort<A: Allocator>(notes: &mut Notes<A>, scene: &Scene<'_, '_>, sort: Sort, name: &str) {
     note_declared(notes, scene, name);
     match nearest_name(scene, sort, name) {
-        Some(other) if other != name => note_meant(notes, other),
+        Some(other) if other != name => notes.add_meant(other),
         _ => notes.add_help(sort_help(sort, scene.meant)),
     }
 }
 
 /// Notes the register that was meant, or how one is assigned.
-fn note_register<A: Allocator, B: Allocator>(
-    notes: &mut Notes<A>,
-    scene: &Scene<'_, '_, B>,
-    name: &str,
-) {
+fn note_register<A: Allocator>(notes: &mut Notes<A>, scene: &Scene<'_, '_>, name: &str) {
     note_declared(notes, scene, name);
     match nearest_register(scene, name) {
-        Some(other) if other != name => note_meant(notes, other),
-        _ => {
-            notes.begin("help: assign it on a line above, as by ");
-            notes.add_three("`let ", name, " = 0`\n");
-        }
+        Some(other) if other != name => notes.add_meant(other),
+        _ => notes.add_help_with("assign it on a line above, as by `let ", name, " = 0`\n"),
     }
 }
 
 /// Notes how the value of a cell or a reducer comes into a register.
-fn note_read<A: Allocator, B: Allocator>(
-    notes: &mut Notes<A>,
-    scene: &Scene<'_, '_, B>,
-    keyword: &str,
-    name: &str,
-) {
+fn note_read<A: Allocator>(notes: &mut Notes<A>, scene: &Scene<'_, '_>, keyword: &str, name: &str) {
     note_declared(notes, scene, name);
     notes.begin("help: ");
     notes.add_three(keyword, " it into a register first: `", keyword);
@@ -169,31 +130,26 @@ fn note_read<A: Allocator, B: Allocator>(
 }
 
 /// Whether a `read` of a program has its cell where its register is wanted.
-fn is_turned<B: Allocator>(scene: &Scene<'_, '_, B>) -> bool {
+fn is_turned(scene: &Scene<'_, '_>) -> bool {
     matches!(scene.meant, Meant::Program)
         && scene.word(0) == "read"
         && matches!(scene.kind(scene.word(1)), Some(Kind::Cell))
 }
 
 /// Notes how a `read` is written whose two words are turned.
-fn note_turned<A: Allocator, B: Allocator>(notes: &mut Notes<A>, scene: &Scene<'_, '_, B>) {
+fn note_turned<A: Allocator>(notes: &mut Notes<A>, scene: &Scene<'_, '_>) {
     notes.begin("help: the register comes first: `read ");
     notes.add_three(scene.word(2), " ", scene.word(1));
     notes.add_words("`\n");
 }
 
 /// Notes the register that stands where a cell is wanted.
-fn note_instead<A: Allocator, B: Allocator>(
-    notes: &mut Notes<A>,
-    scene: &Scene<'_, '_, B>,
-    name: &str,
-) {
+fn note_instead<A: Allocator>(notes: &mut Notes<A>, scene: &Scene<'_, '_>, name: &str) {
     let function = scene.function();
     let begin = scene.before().len().saturating_sub(function.len());
     if let Some(place) = named_at(function, name) {
-        notes.begin("");
-        notes.add_quoted(name, " is a register, named first at line ");
-        notes.end_with_line(begin.saturating_add(place));
+        let place = begin.saturating_add(place);
+        notes.add_place("", name, " is a register, named first at line ", place);
     }
     if is_turned(scene) {
         note_turned(notes, scene);
@@ -203,9 +159,9 @@ fn note_instead<A: Allocator, B: Allocator>(
 }
 
 /// Notes what is known of a name that is not declared as what its place wants.
-pub(crate) fn note_unknown<A: Allocator, B: Allocator>(
+pub(crate) fn note_unknown<A: Allocator>(
     notes: &mut Notes<A>,
-    scene: &Scene<'_, '_, B>,
+    scene: &Scene<'_, '_>,
     mistake: UnknownMistake,
     part: Part,
 ) {
@@ -226,8 +182,11 @@ pub(crate) fn note_unknown<A: Allocator, B: Allocator>(
         UnknownMistake::NoIndex => note_array(notes, scene, name),
         UnknownMistake::NoArray => {
             note_declared(notes, scene, name);
-            notes.begin("help: write ");
-            notes.add_quoted(name, ", or declare an array, by `mem NAME LENGTH`\n");
+            notes.add_help_with(
+                "write `",
+                name,
+                "`, or declare an array, by `mem NAME LENGTH`\n",
+            );
         }
         UnknownMistake::ReducerForCell => {
             note_declared(notes, scene, name);

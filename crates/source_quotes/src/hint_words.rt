@@ -12,13 +12,17 @@ use crate::shape::element;
 use std::alloc::Allocator;
 
 /// Notes the form of the lines with the same first word.
-pub(crate) fn note_form<A: Allocator, B: Allocator>(
-    notes: &mut Notes<A>,
-    scene: &Scene<'_, '_, B>,
-) {
+pub(crate) fn note_form<A: Allocator>(notes: &mut Notes<A>, scene: &Scene<'_, '_>) {
     if let Some(form) = form_of(scene.meant, scene.word(0)) {
-        notes.begin("help: the form of this line is ");
-        notes.add_quoted(form.text, "\n");
+        notes.add_help_with("the form of this line is `", form.text, "`\n");
+    }
+}
+
+/// What the place of a part of a line wants, where the part is a word.
+pub(crate) fn wanted_at(scene: &Scene<'_, '_>, part: Part) -> Option<Wanted> {
+    match (form_of(scene.meant, scene.word(0)), part) {
+        (Some(form), Part::Word(at)) => form.place(at),
+        _ => None,
     }
 }
 
@@ -56,24 +60,20 @@ fn firsts_help(meant: Meant) -> &'static str {
 /// Notes the first word that was meant, in this kind of text or else in the other, or those that there are.
 fn note_first<A: Allocator>(notes: &mut Notes<A>, meant: Meant, word: &str) {
     if let Some(first) = nearest_first(meant, word) {
-        notes.begin("help: did you mean ");
-        notes.add_quoted(first, "?\n");
+        notes.add_meant(first);
     } else if let Some(first) = nearest_first(meant.other(), word) {
-        notes.begin("help: did you mean ");
-        notes.add_quoted(
-            first,
-            match meant {
-                Meant::Program => ", as in a trace?\n",
-                Meant::Trace => ", as in a program?\n",
-            },
-        );
+        let behind = match meant {
+            Meant::Program => "`, as in a trace?\n",
+            Meant::Trace => "`, as in a program?\n",
+        };
+        notes.add_help_with("did you mean `", first, behind);
     } else {
         notes.add_help(firsts_help(meant));
     }
 }
 
 /// Notes how what stands before a `=` is assigned.
-fn note_assignment<A: Allocator, B: Allocator>(notes: &mut Notes<A>, scene: &Scene<'_, '_, B>) {
+fn note_assignment<A: Allocator>(notes: &mut Notes<A>, scene: &Scene<'_, '_>) {
     let (target, value) = (scene.word(0), scene.word(2));
     notes.begin("help: assign a register by `let ");
     notes.add_three(target, " = ", value);
@@ -88,16 +88,13 @@ fn note_monoid<A: Allocator>(notes: &mut Notes<A>, word: &str) {
         nearest.offer(monoid);
     }
     match nearest.nearest() {
-        Some(other) => {
-            notes.begin("help: did you mean ");
-            notes.add_quoted(other, "?\n");
-        }
+        Some(other) => notes.add_meant(other),
         None => notes.add_help("take `sum`, `min`, `max`, `last`, or in version 2 `digits`"),
     }
 }
 
 /// Notes how a `let` of several operators is written: `let r = a + b + c` as two.
-fn note_chain<A: Allocator, B: Allocator>(notes: &mut Notes<A>, scene: &Scene<'_, '_, B>) {
+fn note_chain<A: Allocator>(notes: &mut Notes<A>, scene: &Scene<'_, '_>) {
     match scene.words {
         [_, target, _, left, sign, right, next, last, ..] => {
             notes.begin("help: write a line for each: `let ");
@@ -113,11 +110,7 @@ fn note_chain<A: Allocator, B: Allocator>(notes: &mut Notes<A>, scene: &Scene<'_
 }
 
 /// Notes what is done in place of what is too much.
-fn note_extra<A: Allocator, B: Allocator>(
-    notes: &mut Notes<A>,
-    scene: &Scene<'_, '_, B>,
-    word: &str,
-) {
+fn note_extra<A: Allocator>(notes: &mut Notes<A>, scene: &Scene<'_, '_>, word: &str) {
     match scene.words {
         ["if", left, sign, right, ..] => {
             notes.begin("help: assign the condition first: `let t = ");
@@ -133,18 +126,20 @@ fn note_extra<A: Allocator, B: Allocator>(
 }
 
 /// Notes what a number with a minus sign is written as.
-fn note_negative<A: Allocator, B: Allocator>(
+fn note_negative<A: Allocator>(
     notes: &mut Notes<A>,
-    scene: &Scene<'_, '_, B>,
+    scene: &Scene<'_, '_>,
     wanted: Option<Wanted>,
     word: &str,
 ) {
     match (scene.meant, wanted, word.strip_prefix('-')) {
         (Meant::Program, Some(Wanted::Operand), Some(digits)) => {
             notes.add_note("numbers are modulo 18446744073709551616");
-            notes.begin("help: subtract it from 0: `let r = 0 - ");
-            notes.add_words(digits);
-            notes.add_words("`, and use `r`\n");
+            notes.add_help_with(
+                "subtract it from 0: `let r = 0 - ",
+                digits,
+                "`, and use `r`\n",
+            );
         }
         _ => {
             note_range(notes, wanted);
@@ -166,7 +161,7 @@ fn note_declaration<A: Allocator>(notes: &mut Notes<A>, word: &str) {
 }
 
 /// Notes how a comparison is written that is none of the operators.
-fn note_operator<A: Allocator, B: Allocator>(notes: &mut Notes<A>, scene: &Scene<'_, '_, B>) {
+fn note_operator<A: Allocator>(notes: &mut Notes<A>, scene: &Scene<'_, '_>) {
     match scene.words {
         ["let", target, _, left, ">", right] => {
             notes.begin("help: swap the two: `let ");
@@ -178,7 +173,7 @@ fn note_operator<A: Allocator, B: Allocator>(notes: &mut Notes<A>, scene: &Scene
 }
 
 /// Notes a statement or a request in a text of the other kind.
-fn note_other_kind<A: Allocator, B: Allocator>(notes: &mut Notes<A>, scene: &Scene<'_, '_, B>) {
+fn note_other_kind<A: Allocator>(notes: &mut Notes<A>, scene: &Scene<'_, '_>) {
     if let Some(form) = form_of(scene.meant, scene.word(0)) {
         notes.begin(match scene.meant {
             Meant::Program => "the form of this line in a program is ",
@@ -195,11 +190,7 @@ fn note_other_kind<A: Allocator, B: Allocator>(notes: &mut Notes<A>, scene: &Sce
 }
 
 /// Notes which cells the array has whose index is wrong.
-fn note_element<A: Allocator, B: Allocator>(
-    notes: &mut Notes<A>,
-    scene: &Scene<'_, '_, B>,
-    part: Part,
-) {
+pub(crate) fn note_element<A: Allocator>(notes: &mut Notes<A>, scene: &Scene<'_, '_>, part: Part) {
     if let Part::Index(at) = part
         && let Some((name, _)) = element(scene.word(at))
     {
@@ -207,18 +198,30 @@ fn note_element<A: Allocator, B: Allocator>(
     }
 }
 
+/// What to do about a word, where no other word of the line matters.
+fn word_help(mistake: WordMistake) -> Option<&'static str> {
+    match mistake {
+        WordMistake::Later => Some("write `cilk 2` as the first line"),
+        WordMistake::Slashes => Some("write `#` before a comment"),
+        WordMistake::Semicolon => Some("leave out the `;`"),
+        WordMistake::Name => {
+            Some("begin with a lower-case letter, and go on with such letters, digits and `_`")
+        }
+        WordMistake::Spaces => Some("put a space on each side of `=` and of each operator"),
+        WordMistake::Cell => Some("name a cell as `NAME`, or as `NAME[INDEX]` without spaces"),
+        _ => None,
+    }
+}
+
 /// Notes what is known of a word of another shape than its place wants, or of words that are missing or too much.
-pub(crate) fn note_word<A: Allocator, B: Allocator>(
+pub(crate) fn note_word<A: Allocator>(
     notes: &mut Notes<A>,
-    scene: &Scene<'_, '_, B>,
+    scene: &Scene<'_, '_>,
     mistake: WordMistake,
     part: Part,
 ) {
     let word = scene.culprit(part);
-    let wanted = match (form_of(scene.meant, scene.word(0)), part) {
-        (Some(form), Part::Word(at)) => form.place(at),
-        _ => None,
-    };
+    let wanted = wanted_at(scene, part);
     match mistake {
         WordMistake::Statement if scene.word(1) == "=" => note_assignment(notes, scene),
         WordMistake::Statement | WordMistake::Request => note_first(notes, scene.meant, word),
@@ -226,9 +229,6 @@ pub(crate) fn note_word<A: Allocator, B: Allocator>(
             notes.add_help("a function returns at its `end`");
         }
         WordMistake::OfTrace | WordMistake::OfProgram => note_other_kind(notes, scene),
-        WordMistake::Later => notes.add_help("write `cilk 2` as the first line"),
-        WordMistake::Slashes => notes.add_help("write `#` before a comment"),
-        WordMistake::Semicolon => notes.add_help("leave out the `;`"),
         WordMistake::Extra => note_extra(notes, scene, word),
         WordMistake::Argument => {
             note_form(notes, scene);
@@ -239,11 +239,6 @@ pub(crate) fn note_word<A: Allocator, B: Allocator>(
             notes.begin("help: write `");
             notes.add_lowercase(word);
             notes.add_words("`\n");
-        }
-        WordMistake::Name => {
-            notes.add_help(
-                "begin with a lower-case letter, and go on with such letters, digits and `_`",
-            );
         }
         WordMistake::LongName => {
             notes.begin("help: shorten it from ");
@@ -257,14 +252,18 @@ pub(crate) fn note_word<A: Allocator, B: Allocator>(
         }
         WordMistake::Negative => note_negative(notes, scene, wanted, word),
         WordMistake::Element => {
-            notes.begin("help: read it into a register first: `read r ");
-            notes.add_words(word);
-            notes.add_words("`, and use `r`\n");
+            notes.add_help_with(
+                "read it into a register first: `read r ",
+                word,
+                "`, and use `r`\n",
+            );
         }
         WordMistake::NoRegister if scene.word(0) == "if" => {
-            notes.begin("help: assign a register first: `let t = ");
-            notes.add_words(word);
-            notes.add_words("`, then `if t`\n");
+            notes.add_help_with(
+                "assign a register first: `let t = ",
+                word,
+                "`, then `if t`\n",
+            );
         }
         WordMistake::NoNumber if matches!(part, Part::Index(_)) => note_element(notes, scene, part),
         WordMistake::NoNumber => {
@@ -273,13 +272,10 @@ pub(crate) fn note_word<A: Allocator, B: Allocator>(
         }
         WordMistake::NoMonoid => note_monoid(notes, word),
         WordMistake::Operator => note_operator(notes, scene),
-        WordMistake::Spaces => {
-            notes.add_help("put a space on each side of `=` and of each operator");
-        }
-        WordMistake::Cell => {
-            notes.add_help("name a cell as `NAME`, or as `NAME[INDEX]` without spaces");
-        }
         WordMistake::Array => note_declaration(notes, word),
-        _ => note_form(notes, scene),
+        _ => match word_help(mistake) {
+            Some(help) => notes.add_help(help),
+            None => note_form(notes, scene),
+        },
     }
 }

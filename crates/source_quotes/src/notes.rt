@@ -45,6 +45,24 @@ impl<A: Allocator> Notes<A> {
         self.add_words("\n");
     }
 
+    /// Adds a note of what to do, in three pieces.
+    pub(crate) fn add_help_with(&mut self, before: &str, word: &str, behind: &str) {
+        self.begin("help: ");
+        self.add_three(before, word, behind);
+    }
+
+    /// Adds a note that asks whether this word was meant.
+    pub(crate) fn add_meant(&mut self, word: &str) {
+        self.add_help_with("did you mean `", word, "`?\n");
+    }
+
+    /// Adds a note of the line before which so many stand: words, a word in quotes, and what is said of it.
+    pub(crate) fn add_place(&mut self, words: &str, name: &str, behind: &str, before: usize) {
+        self.begin(words);
+        self.add_quoted(name, behind);
+        self.end_with_line(before);
+    }
+
     /// Adds a word in quotes, and the words behind it.
     pub(crate) fn add_quoted(&mut self, word: &str, behind: &str) {
         self.is_short |= push_three(&mut self.text, "`", word, "`").is_err();

@@ -4,7 +4,6 @@ ghost use Rattle.std.specs.Prelude.{◌<◌, length, IfSome};
 
 use crate::meant::Meant;
 use crate::part::Part;
-use crate::source::Source;
 use std::alloc::{AllocError, Allocator};
 use text_words::{Words, as_text};
 
@@ -109,18 +108,20 @@ pub(crate) fn kind_of<'a>(line: &'a [u8]) -> Kind<'a> {
 
 /// A faulty line and the text around it.
 #[derive(Clone, Copy)]
-pub(crate) struct Scene<'s, 'a, B: Allocator> {
-    /// The text.
-    pub(crate) source: &'s Source<'a, B>,
-    /// The number of the line.
+pub(crate) struct Scene<'s, 'a> {
+    /// The lines of the text.
+    pub(crate) lines: &'s [&'a [u8]],
+    /// The number of the faulty one.
     pub(crate) number: u32,
+    /// The faulty line, which is empty where none has the number.
+    pub(crate) line: &'a [u8],
     /// What the text is to mean.
     pub(crate) meant: Meant,
     /// The words of the line.
     pub(crate) words: &'s [&'a str],
 }
 
-impl<'s, 'a, B: Allocator> Scene<'s, 'a, B> {
+impl<'s, 'a> Scene<'s, 'a> {
     /// The word with this number, and an empty one behind the last.
     pub(crate) fn word(&self, number: usize) -> &'a str {
         self.words.get(number).copied().unwrap_or("")
@@ -143,7 +144,8 @@ impl<'s, 'a, B: Allocator> Scene<'s, 'a, B> {
 
     /// The lines before the faulty one.
     pub(crate) fn before(&self) -> &'s [&'a [u8]] {
-        self.source.before(self.number)
+        let count = (self.number as usize).saturating_sub(1);
+        &self.lines[..count.min(self.lines.len())]
     }
 
     /// The lines of the function that the faulty line stands in, from its `func` up to the line before.
@@ -157,7 +159,10 @@ impl<'s, 'a, B: Allocator> Scene<'s, 'a, B> {
 
     /// Whether the text is of version 2.
     pub(crate) fn is_second(&self) -> bool {
-        first_words(self.source.line(1)).1 == "2"
+        match self.lines {
+            [first, ..] => first_words(first).1 == "2",
+            [] => false,
+        }
     }
 
     /// Whether a line above names the register.
@@ -167,7 +172,7 @@ impl<'s, 'a, B: Allocator> Scene<'s, 'a, B> {
 
     /// Whether some line of the text begins a function of this name.
     pub(crate) fn is_function(&self, name: &str) -> bool {
-        self.source.as_slice().iter().any(|line| {
+        self.lines.iter().any(|line| {
             let (first, second, _) = first_words(line);
             first == "func" && second == name
         })

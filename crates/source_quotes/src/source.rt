@@ -60,10 +60,4 @@ impl<'a, A: Allocator> Source<'a, A> {
     pub fn as_slice(&self) -> &[&'a [u8]] {
         self.lines.as_slice()
     }
-
-    /// The lines before the one with this number.
-    pub fn before(&self, number: u32) -> &[&'a [u8]] {
-        let count = (number as usize).saturating_sub(1).min(self.lines.len());
-        &self.lines.as_slice()[..count]
-    }
 }

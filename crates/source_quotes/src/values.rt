@@ -6,7 +6,6 @@ use crate::mistake::{NumberMistake, UnknownMistake};
 use crate::part::Part;
 use crate::scene::{Kind, Scene};
 use crate::shape::{begins_with_digit, element};
-use std::alloc::Allocator;
 use text_words::is_name;
 
 /// The greatest number of a strand, and of a line.
@@ -51,7 +50,7 @@ fn bad_mark(word: &str) -> Option<NumberMistake> {
 }
 
 /// What is wrong with the number in brackets of the word of a cell.
-fn bad_index<B: Allocator>(scene: &Scene<'_, '_, B>, word: &str) -> Option<NumberMistake> {
+fn bad_index(scene: &Scene<'_, '_>, word: &str) -> Option<NumberMistake> {
     let (name, index) = element(word)?;
     if !begins_with_digit(index) {
         return None;
@@ -66,8 +65,8 @@ fn bad_index<B: Allocator>(scene: &Scene<'_, '_, B>, word: &str) -> Option<Numbe
 }
 
 /// What is wrong with the word with this number, as a number of its place.
-fn bad_number<B: Allocator>(
-    scene: &Scene<'_, '_, B>,
+fn bad_number(
+    scene: &Scene<'_, '_>,
     wanted: Wanted,
     word: &str,
     at: usize,
@@ -89,7 +88,7 @@ fn bad_number<B: Allocator>(
 }
 
 /// What is wrong with the numbers of a line that has one that is none, or is out of range.
-pub(crate) fn bad_numbers<B: Allocator>(scene: &Scene<'_, '_, B>) -> (NumberMistake, Part) {
+pub(crate) fn bad_numbers(scene: &Scene<'_, '_>) -> (NumberMistake, Part) {
     if let Some(form) = form_of(scene.meant, scene.word(0)) {
         for (at, word) in scene.words.iter().enumerate() {
             if let Some(wanted) = form.place(at)
@@ -103,7 +102,7 @@ pub(crate) fn bad_numbers<B: Allocator>(scene: &Scene<'_, '_, B>) -> (NumberMist
 }
 
 /// What is wrong with a name where a register is wanted that is known.
-fn unknown_register<B: Allocator>(scene: &Scene<'_, '_, B>, name: &str) -> Option<UnknownMistake> {
+fn unknown_register(scene: &Scene<'_, '_>, name: &str) -> Option<UnknownMistake> {
     if !is_name(name) || scene.is_register(name) {
         return None;
     }
@@ -115,7 +114,7 @@ fn unknown_register<B: Allocator>(scene: &Scene<'_, '_, B>, name: &str) -> Optio
 }
 
 /// What is wrong with a name that no memory has.
-fn no_memory<B: Allocator>(scene: &Scene<'_, '_, B>, name: &str) -> UnknownMistake {
+fn no_memory(scene: &Scene<'_, '_>, name: &str) -> UnknownMistake {
     if matches!(scene.kind(name), Some(Kind::Reducer)) {
         UnknownMistake::ReducerForCell
     } else if matches!(scene.meant, Meant::Program) && scene.is_register(name) {
@@ -126,11 +125,7 @@ fn no_memory<B: Allocator>(scene: &Scene<'_, '_, B>, name: &str) -> UnknownMista
 }
 
 /// What is wrong with the names of a cell, the word with this number.
-fn unknown_cell<B: Allocator>(
-    scene: &Scene<'_, '_, B>,
-    word: &str,
-    at: usize,
-) -> Option<(UnknownMistake, Part)> {
+fn unknown_cell(scene: &Scene<'_, '_>, word: &str, at: usize) -> Option<(UnknownMistake, Part)> {
     match element(word) {
         None => match scene.kind(word) {
             Some(Kind::Cell) => None,
@@ -149,7 +144,7 @@ fn unknown_cell<B: Allocator>(
 }
 
 /// What is wrong with a name where a reducer is wanted.
-fn unknown_reducer<B: Allocator>(scene: &Scene<'_, '_, B>, name: &str) -> Option<UnknownMistake> {
+fn unknown_reducer(scene: &Scene<'_, '_>, name: &str) -> Option<UnknownMistake> {
     match scene.kind(name) {
         Some(Kind::Reducer) => None,
         Some(Kind::Cell | Kind::Array(_)) => Some(UnknownMistake::CellForReducer),
@@ -158,7 +153,7 @@ fn unknown_reducer<B: Allocator>(scene: &Scene<'_, '_, B>, name: &str) -> Option
 }
 
 /// What is wrong with a name where a function is wanted, which any line of the text may begin.
-fn unknown_function<B: Allocator>(scene: &Scene<'_, '_, B>, name: &str) -> Option<UnknownMistake> {
+fn unknown_function(scene: &Scene<'_, '_>, name: &str) -> Option<UnknownMistake> {
     if scene.is_function(name) {
         None
     } else {
@@ -167,8 +162,8 @@ fn unknown_function<B: Allocator>(scene: &Scene<'_, '_, B>, name: &str) -> Optio
 }
 
 /// What is wrong with the word with this number, as a name that its place wants.
-fn unknown_name<B: Allocator>(
-    scene: &Scene<'_, '_, B>,
+fn unknown_name(
+    scene: &Scene<'_, '_>,
     wanted: Wanted,
     word: &str,
     at: usize,
@@ -187,7 +182,7 @@ fn unknown_name<B: Allocator>(
 }
 
 /// What is wrong with the names of a line that has one that is not declared as what its place wants.
-pub(crate) fn unknown_names<B: Allocator>(scene: &Scene<'_, '_, B>) -> (UnknownMistake, Part) {
+pub(crate) fn unknown_names(scene: &Scene<'_, '_>) -> (UnknownMistake, Part) {
     if let Some(form) = form_of(scene.meant, scene.word(0)) {
         for (at, word) in scene.words.iter().enumerate() {
             if let Some(wanted) = form.place(at)

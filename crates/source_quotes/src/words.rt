@@ -6,7 +6,6 @@ use crate::mistake::WordMistake;
 use crate::part::Part;
 use crate::scene::Scene;
 use crate::shape::{bad_shape, is_operator, of_c};
-use std::alloc::Allocator;
 use text_words::Version;
 
 /// The first word that has another shape than its place wants.
@@ -74,11 +73,7 @@ fn of_other(meant: Meant) -> WordMistake {
 }
 
 /// What is wrong with words behind the first one, which has this form.
-fn bad_behind<B: Allocator>(
-    scene: &Scene<'_, '_, B>,
-    form: Form,
-    version: Version,
-) -> (WordMistake, Part) {
+fn bad_behind(scene: &Scene<'_, '_>, form: Form, version: Version) -> (WordMistake, Part) {
     if let Some(other) = form_of(scene.meant.other(), scene.word(0))
         && fits(other, scene.words, version)
     {
@@ -98,7 +93,7 @@ fn bad_behind<B: Allocator>(
 }
 
 /// What is wrong with the words of a line that has a word of another shape than its place wants, or too few or too many.
-pub(crate) fn bad_words<B: Allocator>(scene: &Scene<'_, '_, B>) -> (WordMistake, Part) {
+pub(crate) fn bad_words(scene: &Scene<'_, '_>) -> (WordMistake, Part) {
     let first = scene.word(0);
     let version = if scene.is_second() {
         Version::Two
