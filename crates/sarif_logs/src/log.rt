@@ -1,8 +1,9 @@
 //! The log of a record.
 
-ghost use Rattle.std.specs.Prelude.{◌≡◌, ◌++◌, [], IfOk, OnOk, codes, decimal, map, string_bytes};
+ghost use Rattle.std.specs.Prelude.{◌≡◌, ◌++◌, [], IfOk, OnOk, codes, decimal, map};
 ghost use Rattle.serde_json.specs.View.{view, members_view};
 ghost use Rattle.sarif_logs.specs.Reading.{items_at};
+ghost use Rattle.sarif_logs.specs.Places.{text_told};
 ghost use Rattle.sarif_logs.specs.Results.{race_result, warning_result, fault_result};
 ghost use Rattle.sarif_logs.specs.Logs.{illegal_results, results_of, is_whole, cut_words, notes_of, invocation_told, picked, properties_told, tool_told, run_told, log_told};
 
@@ -91,14 +92,14 @@ fn is_whole(document: &Value) -> bool
     is_at(document, "outcome", "clean") || is_at(document, "outcome", "raced")
 }
 
-/// What is said of a run that the limit ended.
-fn cut_words(alloc: Global, requests: u64) -> Result<String, AllocError>
-    ensures { IfOk result (λ words. string_bytes words ≡ cut_words requests) }
+/// The message of a run that the limit ended.
+fn cut_message(alloc: Global, requests: u64) -> Result<Value, AllocError>
+    ensures { IfOk result (λ value. view value ≡ text_told (cut_words requests)) }
 {
     let mut words = String::from_str(alloc, "The limit ended the run after ")?;
     words.push_str(Buffer::new().format(requests))?;
     words.push_str(" requests, and there may be more to tell.")?;
-    Ok(words)
+    text_value(alloc, words.as_str())
 }
 
 /// What is noted of the run itself: that the limit ended it.
@@ -108,9 +109,10 @@ fn notes_value(alloc: Global, document: &Value) -> Result<Value, AllocError>
     if !is_at(document, "outcome", "unfinished") {
         return json!(in alloc; []);
     }
-    let words = cut_words(alloc, count_at(document, "requests"))?;
-    let message = text_value(alloc, words.as_str())?;
-    json!(in alloc; [{"level": "warning", "message": message}])
+    json!(in alloc; [{
+        "level": "warning",
+        "message": cut_message(alloc, count_at(document, "requests"))?
+    }])
 }
 
 /// How the run came out.

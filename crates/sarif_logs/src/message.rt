@@ -3,12 +3,13 @@
 ghost use Rattle.std.specs.Prelude.{◌≡◌, ◌++◌, ◌∷◌, List, IfOk, OnOk, codes, decimal, map, string_bytes};
 ghost use Rattle.std.specs.Option.{option_map};
 ghost use Rattle.serde_json.specs.View.{view};
+ghost use Rattle.sarif_logs.specs.Places.{text_told};
 ghost use Rattle.sarif_logs.specs.AccessViews.{access_parts};
 ghost use Rattle.sarif_logs.specs.Messages.{name_words, other_words, names_words, refused_words, witness_words, order_words, peer_words};
 ghost use Rattle.sarif_logs.specs.Messages.{conflict_words, spawn_words, help_words, race_words};
 
 use crate::access::{Access, access_at};
-use crate::place::{push_function, push_place};
+use crate::place::{push_function, push_place, text_value};
 use crate::reading::{is_at, items_at, object_at, text_at};
 use itoa::Buffer;
 use serde_json::Value;
@@ -129,8 +130,8 @@ pub(crate) fn push_help(text: &mut String, help: Option<&str>) -> Result<(), All
 }
 
 /// The message of a race.
-pub(crate) fn race_message(alloc: Global, race: &Value) -> Result<String, AllocError>
-    ensures { IfOk result (λ message. string_bytes message ≡ race_words (view race.now)) }
+pub(crate) fn race_message(alloc: Global, race: &Value) -> Result<Value, AllocError>
+    ensures { IfOk result (λ value. view value ≡ text_told (race_words (view race.now))) }
 {
     let mut text = String::new(alloc);
     push_refused(
@@ -141,5 +142,5 @@ pub(crate) fn race_message(alloc: Global, race: &Value) -> Result<String, AllocE
     push_conflict(&mut text, race)?;
     text.push_str(spawn_words(object_at(race, "parting"), object_at(race, "outstanding")))?;
     push_help(&mut text, text_at(race, "help"))?;
-    Ok(text)
+    text_value(alloc, text.as_str())
 }

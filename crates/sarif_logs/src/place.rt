@@ -120,12 +120,10 @@ fn physical_value(alloc: Global, file: &str, place: &Place<'_>) -> Result<Value,
 {
     let uri = uri(alloc, file)?;
     match place.line {
-        Some(line) => {
-            json!(in alloc; {
-                "artifactLocation": {"uri": uri},
-                "region": region_value(alloc, line, place.column, place.code)?
-            })
-        }
+        Some(line) => json!(in alloc; {
+            "artifactLocation": {"uri": uri},
+            "region": region_value(alloc, line, place.column, place.code)?
+        }),
         None => json!(in alloc; {"artifactLocation": {"uri": uri}}),
     }
 }
@@ -194,45 +192,39 @@ pub(crate) fn push_function(text: &mut String, place: &Place<'_>) -> Result<(), 
     }
 }
 
-/// Words, and behind them a place without a file.
-fn noted_words(alloc: Global, words: &str, place: &Place<'_>) -> Result<String, AllocError>
-    ensures { IfOk result (λ noted. string_bytes noted ≡ noted_words words.now (place_parts place.now)) }
+/// A message, and behind it a place without a file.
+fn noted_message(alloc: Global, words: &str, place: &Place<'_>) -> Result<Value, AllocError>
+    ensures { IfOk result (λ value. view value ≡ text_told (noted_words words.now (place_parts place.now))) }
 {
     let mut noted = String::from_str(alloc, words)?;
     noted.push_str(" (")?;
     push_place(&mut noted, place)?;
     noted.push_str(")")?;
-    Ok(noted)
+    text_value(alloc, noted.as_str())
 }
 
-/// A place in words.
-fn place_words(alloc: Global, place: &Place<'_>) -> Result<String, AllocError>
-    ensures { IfOk result (λ words. string_bytes words ≡ place_words (place_parts place.now)) }
+/// A place as a message.
+fn place_message(alloc: Global, place: &Place<'_>) -> Result<Value, AllocError>
+    ensures { IfOk result (λ value. view value ≡ text_told (place_words (place_parts place.now))) }
 {
     let mut words = String::new(alloc);
     push_place(&mut words, place)?;
-    Ok(words)
+    text_value(alloc, words.as_str())
 }
 
 /// A place as the location of a result. One without a file has no physical location, and a message in its place.
 pub(crate) fn location_value(alloc: Global, place: &Place<'_>) -> Result<Value, AllocError>
     ensures { IfOk result (λ value. view value ≡ location_told (place_parts place.now)) }
 {
-    let functions = functions_value(alloc, place.function)?;
     match place.file {
-        Some(file) => {
-            json!(in alloc; {
-                "logicalLocations": functions,
-                "physicalLocation": physical_value(alloc, file, place)?
-            })
-        }
-        None => {
-            let words = place_words(alloc, place)?;
-            json!(in alloc; {
-                "logicalLocations": functions,
-                "message": text_value(alloc, words.as_str())?
-            })
-        }
+        Some(file) => json!(in alloc; {
+            "logicalLocations": functions_value(alloc, place.function)?,
+            "physicalLocation": physical_value(alloc, file, place)?
+        }),
+        None => json!(in alloc; {
+            "logicalLocations": functions_value(alloc, place.function)?,
+            "message": place_message(alloc, place)?
+        }),
     }
 }
 
@@ -245,23 +237,17 @@ pub(crate) fn related_value(
 ) -> Result<Value, AllocError>
     ensures { IfOk result (λ value. view value ≡ related_told number words.now (place_parts place.now)) }
 {
-    let functions = functions_value(alloc, place.function)?;
     match place.file {
-        Some(file) => {
-            json!(in alloc; {
-                "id": number,
-                "logicalLocations": functions,
-                "message": text_value(alloc, words)?,
-                "physicalLocation": physical_value(alloc, file, place)?
-            })
-        }
-        None => {
-            let words = noted_words(alloc, words, place)?;
-            json!(in alloc; {
-                "id": number,
-                "logicalLocations": functions,
-                "message": text_value(alloc, words.as_str())?
-            })
-        }
+        Some(file) => json!(in alloc; {
+            "id": number,
+            "logicalLocations": functions_value(alloc, place.function)?,
+            "message": text_value(alloc, words)?,
+            "physicalLocation": physical_value(alloc, file, place)?
+        }),
+        None => json!(in alloc; {
+            "id": number,
+            "logicalLocations": functions_value(alloc, place.function)?,
+            "message": noted_message(alloc, words, place)?
+        }),
     }
 }

@@ -141,13 +141,13 @@ pub(crate) fn related_values(alloc: Global, race: &Value) -> Result<Vec<Value>, 
 {
     let refused = access_at(race, "refused");
     let witness = access_at(race, "witness");
-    let this = joined(alloc, "this ", refused.word)?;
-    let earlier = joined(alloc, "the earlier ", witness.word)?;
     let mut related = Vec::new(alloc);
     push_witness(alloc, &mut related, object_at(race, "witness"))?;
     push_parting(alloc, &mut related, object_at(race, "parting"))?;
     push_outstanding(alloc, &mut related, object_at(race, "outstanding"))?;
+    let this = joined(alloc, "this ", refused.word)?;
     push_links(alloc, &mut related, this.as_str(), refused.within)?;
+    let earlier = joined(alloc, "the earlier ", witness.word)?;
     push_links(alloc, &mut related, earlier.as_str(), witness.within)?;
     Ok(related)
 }

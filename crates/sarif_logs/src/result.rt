@@ -1,7 +1,9 @@
 //! The results of a log: what is told of warnings, races, faults of a text and an illegal request.
 
-ghost use Rattle.std.specs.Prelude.{◌≡◌, ◌++◌, [], false, IfOk, OnOk, map, string_bytes};
+ghost use Rattle.std.specs.Prelude.{◌≡◌, ◌++◌, [], false, IfOk, OnOk, codes, map, string_bytes};
 ghost use Rattle.serde_json.specs.View.{view};
+ghost use Rattle.sarif_logs.specs.Reading.{words_at};
+ghost use Rattle.sarif_logs.specs.Places.{text_told};
 ghost use Rattle.sarif_logs.specs.PlaceViews.{place_parts};
 ghost use Rattle.sarif_logs.specs.Results.{result_told, race_properties, race_result, warning_words, warning_result, title_of, quoted, told_twice, fault_words, fault_result};
 ghost use Rattle.sarif_logs.specs.Results.{illegal_words, illegal_result};
@@ -27,13 +29,14 @@ fn result_value(
 ) -> Result<Value, AllocError>
     ensures { IfOk result (λ value. view value ≡ result_told rule (view message) (place_parts place.now) (map view related.items) (view properties) times) }
 {
+    // The given values go in first: fewer are left to drop where a later step fails.
     json!(in alloc; {
-        "level": rule.level(),
-        "locations": [location_value(alloc, place)?],
         "message": message,
-        "occurrenceCount": times,
         "properties": properties,
         "relatedLocations": related,
+        "level": rule.level(),
+        "locations": [location_value(alloc, place)?],
+        "occurrenceCount": times,
         "ruleId": rule.id(),
         "ruleIndex": rule.number()
     })
@@ -57,8 +60,7 @@ fn race_properties(alloc: Global, race: &Value) -> Result<Value, AllocError>
 pub(crate) fn race_result(alloc: Global, race: &Value) -> Result<Value, AllocError>
     ensures { IfOk result (λ value. view value ≡ race_result (view race.now)) }
 {
-    let words = race_message(alloc, race)?;
-    let message = text_value(alloc, words.as_str())?;
+    let message = race_message(alloc, race)?;
     let related = related_values(alloc, race)?;
     let properties = race_properties(alloc, race)?;
     result_value(
@@ -72,21 +74,20 @@ pub(crate) fn race_result(alloc: Global, race: &Value) -> Result<Value, AllocErr
     )
 }
 
-/// What is said of a warning.
-fn warning_words(alloc: Global, warning: &Value) -> Result<String, AllocError>
-    ensures { IfOk result (λ words. string_bytes words ≡ warning_words (view warning.now)) }
+/// The message of a warning.
+fn warning_message(alloc: Global, warning: &Value) -> Result<Value, AllocError>
+    ensures { IfOk result (λ value. view value ≡ text_told (warning_words (view warning.now))) }
 {
     let mut words = String::from_str(alloc, words_at(warning, "message"))?;
     words.push_str(".")?;
-    Ok(words)
+    text_value(alloc, words.as_str())
 }
 
 /// The result of a warning.
 pub(crate) fn warning_result(alloc: Global, warning: &Value) -> Result<Value, AllocError>
     ensures { IfOk result (λ value. view value ≡ warning_result (view warning.now)) }
 {
-    let words = warning_words(alloc, warning)?;
-    let message = text_value(alloc, words.as_str())?;
+    let message = warning_message(alloc, warning)?;
     let properties = json!(in alloc; {})?;
     result_value(
         alloc,
@@ -130,22 +131,20 @@ fn told_twice(alloc: Global, words: &str, rendered: &str) -> Result<Value, Alloc
     json!(in alloc; {"markdown": quoted(alloc, rendered)?, "text": words})
 }
 
-/// The title of a fault, as a sentence.
-fn fault_words(alloc: Global, rendered: &str) -> Result<String, AllocError>
-    ensures { IfOk result (λ words. string_bytes words ≡ fault_words rendered.now) }
+/// The message of a fault: its title as a sentence, and as a person is told it.
+fn fault_message(alloc: Global, rendered: &str) -> Result<Value, AllocError>
+    ensures { IfOk result (λ value. view value ≡ told_twice (fault_words rendered.now) rendered.now) }
 {
     let mut words = String::from_str(alloc, title_of(rendered))?;
     words.push_str(".")?;
-    Ok(words)
+    told_twice(alloc, words.as_str(), rendered)
 }
 
 /// The result of a fault of a text.
 pub(crate) fn fault_result(alloc: Global, fault: &Value) -> Result<Value, AllocError>
     ensures { IfOk result (λ value. view value ≡ fault_result (view fault.now)) }
 {
-    let rendered = words_at(fault, "rendered");
-    let words = fault_words(alloc, rendered)?;
-    let message = told_twice(alloc, words.as_str(), rendered)?;
+    let message = fault_message(alloc, words_at(fault, "rendered"))?;
     let properties = json!(in alloc; {"cause": words_at(fault, "cause")})?;
     result_value(
         alloc,
@@ -158,22 +157,22 @@ pub(crate) fn fault_result(alloc: Global, fault: &Value) -> Result<Value, AllocE
     )
 }
 
-/// What is said of an illegal request.
-fn illegal_words(alloc: Global, request: &Value) -> Result<String, AllocError>
-    ensures { IfOk result (λ words. string_bytes words ≡ illegal_words (view request.now)) }
+/// The message of an illegal request.
+fn illegal_message(alloc: Global, request: &Value) -> Result<Value, AllocError>
+    ensures { IfOk result (λ value. view value ≡
+        told_twice (illegal_words (view request.now)) (words_at (codes "rendered") (view request.now))) }
 {
     let mut words = String::from_str(alloc, words_at(request, "message"))?;
     words.push_str(".")?;
     push_help(&mut words, text_at(request, "help"))?;
-    Ok(words)
+    told_twice(alloc, words.as_str(), words_at(request, "rendered"))
 }
 
 /// The result of an illegal request.
 pub(crate) fn illegal_result(alloc: Global, request: &Value) -> Result<Value, AllocError>
     ensures { IfOk result (λ value. view value ≡ illegal_result (view request.now)) }
 {
-    let words = illegal_words(alloc, request)?;
-    let message = told_twice(alloc, words.as_str(), words_at(request, "rendered"))?;
+    let message = illegal_message(alloc, request)?;
     let properties = json!(in alloc; {
         "request": count_at(request, "request"),
         "strand": count_at(request, "strand")
