@@ -126,30 +126,68 @@ fn followed<P: Read>(
     answer
 }
 
-/// Tells of a run of the program that is read, in this form, on paper.
-fn explained<P: Read, R: Abort + Threads + Wait + Sync>(
-    rt: &R,
-    alloc: Global,
-    program: &mut Watched<P>,
+/// A run that is told, and how.
+#[derive(Clone, Copy)]
+struct Telling {
     workers: usize,
     is_serial: bool,
     rendering: Rendering,
     extent: Extent,
-    output: &mut Watched<Filling>,
     limit: u32,
+}
+
+impl Telling {
+    /// A run by so many workers as text.
+    fn text(workers: usize, extent: Extent, limit: u32) -> Telling {
+        Telling {
+            workers,
+            is_serial: false,
+            rendering: Rendering::Text,
+            extent,
+            limit,
+        }
+    }
+
+    /// The first pairs of a run in the serial order.
+    fn serial(rendering: Rendering, limit: u32) -> Telling {
+        Telling {
+            workers: 1,
+            is_serial: true,
+            rendering,
+            extent: Extent::First,
+            limit,
+        }
+    }
+}
+
+/// Tells of a run of the program that is read, on paper.
+fn explained<P: Read, R: Abort + Threads + Wait + Sync>(
+    rt: &R,
+    alloc: Global,
+    program: &mut Watched<P>,
+    telling: Telling,
+    output: &mut Watched<Filling>,
 ) -> Result<u8, CliFault>
     requires reader { has_failed program.old ≡ false }
     requires writer { has_failed output.old ≡ false }
 {
-    let (workers, limit) = (manned(rt, workers), limited(rt, limit));
+    let (workers, limit) = (manned(rt, telling.workers), limited(rt, telling.limit));
     let manner = Manner {
         is_painted: false,
-        rendering,
-        extent,
+        rendering: telling.rendering,
+        extent: telling.extent,
         file: "p.cilk",
     };
     explain_text(
-        rt, alloc, &manner, program, workers, is_serial, &OpenDoor, output, limit,
+        rt,
+        alloc,
+        &manner,
+        program,
+        workers,
+        telling.is_serial,
+        &OpenDoor,
+        output,
+        limit,
     )
 }
 
@@ -182,69 +220,24 @@ fn answered<P: Read, R: Abort + Threads + Wait + Sync>(
             write_run_trace(rt, alloc, input, workers, &OpenDoor, output, limit)
         }
         Explain(workers, limit) => {
-            explained(
-                rt,
-                alloc,
-                input,
-                workers,
-                false,
-                Rendering::Text,
-                Extent::First,
-                output,
-                limit,
-            )
+            let telling = Telling::text(workers, Extent::First, limit);
+            explained(rt, alloc, input, telling, output)
         }
         ExplainAll(workers, limit) => {
-            explained(
-                rt,
-                alloc,
-                input,
-                workers,
-                false,
-                Rendering::Text,
-                Extent::All,
-                output,
-                limit,
-            )
+            let telling = Telling::text(workers, Extent::All, limit);
+            explained(rt, alloc, input, telling, output)
         }
         ExplainSerially(limit) => {
-            explained(
-                rt,
-                alloc,
-                input,
-                1,
-                true,
-                Rendering::Text,
-                Extent::First,
-                output,
-                limit,
-            )
+            let telling = Telling::serial(Rendering::Text, limit);
+            explained(rt, alloc, input, telling, output)
         }
         ExplainAsJson(limit) => {
-            explained(
-                rt,
-                alloc,
-                input,
-                1,
-                true,
-                Rendering::Record(RecordForm::Json),
-                Extent::First,
-                output,
-                limit,
-            )
+            let telling = Telling::serial(Rendering::Record(RecordForm::Json), limit);
+            explained(rt, alloc, input, telling, output)
         }
         ExplainAsSarif(limit) => {
-            explained(
-                rt,
-                alloc,
-                input,
-                1,
-                true,
-                Rendering::Record(RecordForm::Sarif),
-                Extent::First,
-                output,
-                limit,
-            )
+            let telling = Telling::serial(Rendering::Record(RecordForm::Sarif), limit);
+            explained(rt, alloc, input, telling, output)
         }
         Replay(trace) => replayed(rt, alloc, input, trace, output),
         Follow(program) => followed(rt, alloc, input, program, output),

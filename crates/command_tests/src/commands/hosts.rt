@@ -236,13 +236,31 @@ fn check_both<R: Abort + Threads + Wait + Sync>(
 }
 
 /// Of the deed comes what is wanted, by either call.
-pub(super) fn check_either<R: Abort + Threads + Wait + Sync>(
+fn check_either<R: Abort + Threads + Wait + Sync>(
     rt: &R,
     alloc: Global,
-    case: &(Texts<'_>, Deed, Wanted<'_>),
+    texts: Texts<'_>,
+    deed: Deed,
+    wanted: Wanted<'_>,
 ) -> Result<(), Fail> {
-    let job = job_alone(alloc, case.1)?;
-    check_both(rt, alloc, case.0, &job, case.2);
+    let job = job_alone(alloc, deed)?;
+    check_both(rt, alloc, texts, &job, wanted);
+    Ok(())
+}
+
+/// What is done with some texts, and what is wanted of it.
+pub(super) type Done = (Deed, Wanted<'static>);
+
+/// Of each deed with these texts comes what is wanted.
+pub(super) fn check_deeds<R: Abort + Threads + Wait + Sync>(
+    rt: &R,
+    alloc: Global,
+    texts: Texts<'_>,
+    deeds: &[Done],
+) -> Result<(), Fail> {
+    for (deed, wanted) in deeds {
+        check_either(rt, alloc, texts, *deed, *wanted)?;
+    }
     Ok(())
 }
 
@@ -282,12 +300,6 @@ const THERE: Texts<'static> = Texts {
     files: &[("there", "cilk 1\nfunc main z\nend\n")],
 };
 
-/// The parts in files.
-const PARTED: Texts<'static> = Texts {
-    input: "",
-    files: PARTS,
-};
-
 /// Parts of a recording: two in which the same two places race, each on a cell of its own, one in which nothing races, and one in which a
 /// get finds nothing.
 const PARTS: &[(&str, &str)] = &[
@@ -320,6 +332,14 @@ const PARTS: &[(&str, &str)] = &[
         "cilk 1\nmem z\nspawn 0 @5\nwrite 1 z 3 @9\nread 2 z @6\n",
     ),
 ];
+
+/// The parts in files.
+fn parted() -> Texts<'static> {
+    Texts {
+        input: "",
+        files: PARTS,
+    }
+}
 
 /// What is told of the parts where the first two race.
 const RACED: &str = "race: write-read on x and 1 more, 2 times
@@ -404,68 +424,68 @@ const UNSET_AND_RACED_RECORD: &str =
     r#"{"memory":null,"outcome":"raced","pairs":2,"races":[{"group":1,"help":"a `put` into it has to come first in the serial order","kind":"unset","locations":["h"],"outstanding":null,"parting":null,"refused":{"further":0,"place":{"code":null,"column":null,"file":null,"function":null,"line":3},"within":[],"word":"get"},"rule":"unset-get","spawn_line":null,"times":1,"witness":null},{"group":2,"help":"a `sync` in the spawner before line 6 would order them","kind":"write-read","locations":["y"],"outstanding":null,"parting":{"child":{"code":null,"column":null,"file":null,"function":null,"line":9},"next":{"code":null,"column":null,"file":null,"function":null,"line":6},"spawn":{"code":null,"column":null,"file":null,"function":null,"line":5}},"refused":{"further":0,"place":{"code":null,"column":null,"file":null,"function":null,"line":6},"within":[],"word":"read"},"rule":"determinacy-race","spawn_line":5,"times":1,"witness":{"further":0,"place":{"code":null,"column":null,"file":null,"function":null,"line":9},"within":[{"place":{"code":null,"column":null,"file":null,"function":null,"line":5},"way":"spawned"}],"word":"write"}}],"recorded":["one write"],"refusals":2,"requests":4,"traces":2,"untold":[],"version":1,"warned":0,"warnings":[]}"#;
 
 /// What is told as JSON of several parts of a recording.
-const RECORDED: &[(Texts<'static>, Deed, Wanted<'static>)] = &[
+const RECORDED: &[Done] = &[
     (
-        PARTED,
         Deed::ExplainAsJson(&["noted", "alike", "other"]),
         Text(1, NOTED_RECORD),
     ),
     (
-        PARTED,
         Deed::ExplainAsJson(&["unset", "two"]),
         Text(1, UNSET_AND_RACED_RECORD),
     ),
-    (PARTED, Deed::ExplainAsJson(&["three", "gone"]), Lacking),
+    (Deed::ExplainAsJson(&["three", "gone"]), Lacking),
 ];
 
 /// As JSON, too, pairs that are told alike are told once, with the counts and the names of all parts.
 #[test]
 fn parts_of_a_recording_are_told_as_json(rt: HostRuntime) -> Result<(), Fail> {
-    for case in RECORDED {
-        check_either(&rt, rt.alloc(), case)?;
-    }
-    Ok(())
+    check_deeds(&rt, rt.alloc(), parted(), RECORDED)
 }
 
-/// What is done with several parts of a recording.
-const EXPLAINED: &[(Texts<'static>, Deed, Wanted<'static>)] = &[
-    (
-        PARTED,
-        Deed::Explain(&["one", "two", "three"]),
-        Text(1, RACED),
-    ),
-    (
-        PARTED,
-        Deed::Explain(&["unset", "two"]),
-        Text(1, UNSET_AND_RACED),
-    ),
-    (PARTED, Deed::Explain(&["three", "three"]), Text(0, CLEAN)),
-    (PARTED, Deed::Explain(&["one", "bad", "gone"]), Text(2, BAD)),
-    (PARTED, Deed::Explain(&["gone", "bad"]), Lacking),
-    (PARTED, Deed::Explain(&["three", "gone"]), Lacking),
-    (
-        PARTED,
-        Deed::Explain(&["one", "ended", "gone"]),
-        Text(2, ENDED),
-    ),
-    (
-        PARTED,
-        Deed::Explain(&["noted", "alike", "other"]),
-        Text(1, NOTED),
-    ),
+/// What is told of several parts of a recording.
+const EXPLAINED: &[Done] = &[
+    (Deed::Explain(&["one", "two", "three"]), Text(1, RACED)),
+    (Deed::Explain(&["unset", "two"]), Text(1, UNSET_AND_RACED)),
+    (Deed::Explain(&["three", "three"]), Text(0, CLEAN)),
+    (Deed::Explain(&["noted", "alike", "other"]), Text(1, NOTED)),
 ];
 
-/// Pairs that are told alike are told once, with the counts of all parts; a part with a fault is told by its name.
+/// Pairs that are told alike are told once, with the counts of all parts.
 #[test]
 fn parts_of_a_recording_are_explained_together(rt: HostRuntime) -> Result<(), Fail> {
-    for case in EXPLAINED {
-        check_either(&rt, rt.alloc(), case)?;
+    check_deeds(&rt, rt.alloc(), parted(), EXPLAINED)
+}
+
+/// What is told where a part has a fault, or is not there.
+const FAULTY: &[Done] = &[
+    (Deed::Explain(&["one", "bad", "gone"]), Text(2, BAD)),
+    (Deed::Explain(&["one", "ended", "gone"]), Text(2, ENDED)),
+    (Deed::Explain(&["gone", "bad"]), Lacking),
+    (Deed::Explain(&["three", "gone"]), Lacking),
+];
+
+/// A part with a fault is told by its name, unless one before it is not there.
+#[test]
+fn a_part_with_a_fault_is_told_by_its_name(rt: HostRuntime) -> Result<(), Fail> {
+    check_deeds(&rt, rt.alloc(), parted(), FAULTY)
+}
+
+/// What is done with texts, and what is wanted of it.
+type Case = (Texts<'static>, Deed, Wanted<'static>);
+
+/// Of each deed comes what is wanted.
+fn check_cases<R: Abort + Threads + Wait + Sync>(
+    rt: &R,
+    alloc: Global,
+    cases: &[Case],
+) -> Result<(), Fail> {
+    for (texts, deed, wanted) in cases {
+        check_either(rt, alloc, *texts, *deed, *wanted)?;
     }
     Ok(())
 }
 
-/// What is done with texts.
-const DEEDS: &[(Texts<'static>, Deed, Wanted<'static>)] = &[
+const DEEDS: &[Case] = &[
     (
         Texts {
             input: JOINED,
@@ -503,12 +523,16 @@ const DEEDS: &[(Texts<'static>, Deed, Wanted<'static>)] = &[
         Deed::Show("one\ntwo\n"),
         Text(0, "one\ntwo\n"),
     ),
-    // What can't be done with a file that is not there.
-    (THERE, Deed::Elide("gone"), Lacking),
-    (THERE, Deed::Draw("gone"), Lacking),
-    (THERE, Deed::Replay("gone", "there"), Lacking),
-    (THERE, Deed::Replay("there", "gone"), Lacking),
-    // Where `-` stands, standard input is read, and no file with that name.
+];
+
+/// A trace on standard input, a program in a file, both in two files, a trace in a file, and a text that is shown.
+#[test]
+fn texts_that_are_there(rt: HostRuntime) -> Result<(), Fail> {
+    check_cases(&rt, rt.alloc(), DEEDS)
+}
+
+/// What is done with standard input by its name.
+const NAMED: &[Case] = &[
     (
         Texts {
             input: JOINED,
@@ -549,16 +573,28 @@ const DEEDS: &[(Texts<'static>, Deed, Wanted<'static>)] = &[
         Deed::Replay("program", "-"),
         Text(1, "replayed 7\n"),
     ),
-    (THERE, Deed::Replay("-", "gone"), Lacking),
-    (THERE, Deed::Replay("gone", "-"), Lacking),
 ];
 
-/// A trace on standard input, a program in a file, both in two files, a trace in a file, a text that is shown, files that are not there, and
-/// each of them on standard input by its name.
+/// Where `-` stands, standard input is read, and no file with that name.
 #[test]
-fn texts_that_are_there_or_not(rt: HostRuntime) -> Result<(), Fail> {
-    for case in DEEDS {
-        check_either(&rt, rt.alloc(), case)?;
+fn standard_input_by_its_name(rt: HostRuntime) -> Result<(), Fail> {
+    check_cases(&rt, rt.alloc(), NAMED)
+}
+
+/// What can't be done with a file that is not there.
+const GONE: &[Deed] = &[
+    Deed::Elide("gone"),
+    Deed::Draw("gone"),
+    Deed::Replay("gone", "there"),
+    Deed::Replay("there", "gone"),
+    Deed::Replay("-", "gone"),
+    Deed::Replay("gone", "-"),
+];
+
+#[test]
+fn files_that_are_not_there(rt: HostRuntime) -> Result<(), Fail> {
+    for deed in GONE {
+        check_either(&rt, rt.alloc(), THERE, *deed, Lacking)?;
     }
     Ok(())
 }

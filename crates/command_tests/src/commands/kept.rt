@@ -5,10 +5,10 @@ ghost use Rattle.std.specs.Prelude.{◌≡◌, false};
 ghost use Rattle.command_streams.specs.Watched.{has_failed};
 
 use super::Command::{Explain, ExplainAsJson};
-use super::Wanted::{Text, Unread};
-use super::pieces::{LATE, Long, RETURNS, WIDE};
+use super::Wanted::Text;
+use super::pieces::{LATE, Long, RETURNS, WIDE, check_broken};
 use super::{Command, MOST, Wanted, check};
-use crate::devices::{Breaking, Giving};
+use crate::devices::Giving;
 use command_streams::{KeptText, read_kept};
 use std::alloc::{AllocError, Global};
 use std::process::Abort;
@@ -129,6 +129,9 @@ const ENDED_TOLD: &str = "error: this strand has ended
 const PROGRAM_TOLD: &str =
     "clean for every schedule: no run of this program has a race, and each leaves this memory\nx 1\n";
 
+/// How many bytes a reader gives at each read at most.
+const PIECES: &[usize] = &[7, 100_003, 131_072];
+
 /// The command over this text does what is wanted, in whatever pieces it comes.
 fn check_long<R: Abort + Threads + Wait + Sync>(
     rt: &R,
@@ -138,15 +141,16 @@ fn check_long<R: Abort + Threads + Wait + Sync>(
     wanted: Wanted<'_>,
 ) -> Result<(), Fail> {
     let text = long.text(alloc)?;
-    for most in [7usize, 100_003, 131_072] {
-        let text = text.as_bytes();
-        check(rt, alloc, command, Giving { text, most }, wanted);
+    let text = text.as_bytes();
+    for most in PIECES {
+        let reader = Giving { text, most: *most };
+        check(rt, alloc, command, reader, wanted);
     }
     Ok(())
 }
 
-/// Texts that are explained, and what is told of them.
-const EXPLAINED: &[(Long, Wanted<'static>)] = &[
+/// Texts in which nothing is refused, and what is told of them.
+const CLEAN: &[(Long, Wanted<'static>)] = &[
     (PLAIN, clean!("20000 requests")),
     (UNENDED, clean!("20001 requests")),
     (ZERO, clean!("20001 requests")),
@@ -155,6 +159,10 @@ const EXPLAINED: &[(Long, Wanted<'static>)] = &[
     (RETURNS, clean!("20001 requests")),
     (WIDE, clean!("2 requests")),
     (LATE, clean!("1 request")),
+];
+
+/// Others that are explained.
+const EXPLAINED: &[(Long, Wanted<'static>)] = &[
     (RECORDED, Text(0, RECORDED_TOLD)),
     (RACED, Text(1, RACED_TOLD)),
     (FAULTY, Text(2, FAULTY_TOLD)),
@@ -162,21 +170,12 @@ const EXPLAINED: &[(Long, Wanted<'static>)] = &[
     (PROGRAM, Text(0, PROGRAM_TOLD)),
 ];
 
-/// Texts, and whether all behind the first piece are plain lines of requests.
-const KEPT: &[(Long, bool)] = &[
-    (PLAIN, true),
-    (RACED, true),
-    (ENDED, true),
-    (UNENDED, false),
-    (ZERO, false),
-    (BLANK, false),
-    (REMARKS, false),
-    (RETURNS, false),
-    (WIDE, false),
-    (LATE, false),
-    (RECORDED, false),
-    (FAULTY, false),
-    (PROGRAM, false),
+/// Texts of which all behind the first piece are plain lines of requests.
+const PLAIN_BEHIND: &[Long] = &[PLAIN, RACED, ENDED];
+
+/// Others.
+const OTHERS: &[Long] = &[
+    UNENDED, ZERO, BLANK, REMARKS, RETURNS, WIDE, LATE, RECORDED, FAULTY, PROGRAM,
 ];
 
 /// The text that is kept, and whether only its head stands as it was read.
@@ -187,16 +186,42 @@ fn kept_text(alloc: Global, source: &KeptText<Global>) -> Result<(Vec<u8>, bool)
     }
 }
 
+/// The text is given again, and it stands as it was read unless it is plain.
+fn check_kept(rt: &impl Abort, alloc: Global, long: Long, is_plain: bool) -> Result<(), Fail> {
+    let text = long.text(alloc)?;
+    let mut reader = Watched::new(text.as_bytes());
+    let source = read_kept(alloc, &mut reader)?;
+    let (given, is_packed) = kept_text(alloc, &source)?;
+    assert_eq!(rt; given.as_slice() == text.as_bytes(), true);
+    assert_eq!(rt; is_packed, is_plain);
+    Ok(())
+}
+
 /// Of plain lines of requests no text is kept, and it is given again.
 #[test]
 fn plain_lines_are_kept_as_requests(rt: HostRuntime) -> Result<(), Fail> {
-    for (long, is_plain) in KEPT {
-        let text = long.text(rt.alloc())?;
-        let mut reader = Watched::new(text.as_bytes());
-        let source = read_kept(rt.alloc(), &mut reader)?;
-        let (given, is_packed) = kept_text(rt.alloc(), &source)?;
-        assert_eq!(rt; given.as_slice() == text.as_bytes(), true);
-        assert_eq!(rt; is_packed, *is_plain);
+    for long in PLAIN_BEHIND {
+        check_kept(&rt, rt.alloc(), *long, true)?;
+    }
+    Ok(())
+}
+
+#[test]
+fn other_lines_are_kept_as_they_stand(rt: HostRuntime) -> Result<(), Fail> {
+    for long in OTHERS {
+        check_kept(&rt, rt.alloc(), *long, false)?;
+    }
+    Ok(())
+}
+
+/// Each text is explained so.
+fn check_explained<R: Abort + Threads + Wait + Sync>(
+    rt: &R,
+    alloc: Global,
+    cases: &[(Long, Wanted<'_>)],
+) -> Result<(), Fail> {
+    for (long, wanted) in cases {
+        check_long(rt, alloc, Explain(2, MOST), *long, *wanted)?;
     }
     Ok(())
 }
@@ -204,10 +229,12 @@ fn plain_lines_are_kept_as_requests(rt: HostRuntime) -> Result<(), Fail> {
 /// Behind the first piece a text goes on with plain lines of requests, or with others, and the same is told as of a short text.
 #[test]
 fn long_texts_are_explained(rt: HostRuntime) -> Result<(), Fail> {
-    for (long, wanted) in EXPLAINED {
-        check_long(&rt, rt.alloc(), Explain(2, MOST), *long, *wanted)?;
-    }
-    Ok(())
+    check_explained(&rt, rt.alloc(), EXPLAINED)
+}
+
+#[test]
+fn long_clean_traces_are_explained(rt: HostRuntime) -> Result<(), Fail> {
+    check_explained(&rt, rt.alloc(), CLEAN)
 }
 
 #[test]
@@ -219,14 +246,7 @@ fn a_long_trace_is_told_as_json(rt: HostRuntime) -> Result<(), Fail> {
 /// A reader that fails behind the first piece, among plain lines of requests.
 #[test]
 fn a_failure_behind_the_first_piece(rt: HostRuntime) -> Result<(), Fail> {
-    let text = PLAIN.text(rt.alloc())?;
-    let reader = Breaking {
-        text: text.as_bytes(),
-        left: 150_000,
-    };
-    let command = Explain(2, MOST);
-    check(&rt, rt.alloc(), command, reader, Unread(150_000));
-    Ok(())
+    check_broken(&rt, rt.alloc(), Explain(2, MOST), PLAIN, 150_000)
 }
 
 const TOGETHER_TOLD: &str = "race: write-read on the cell, 40000 times
@@ -245,7 +265,7 @@ recorded: last
 ";
 
 /// Adds this text to the traces, which tell nothing of it.
-fn add<R: Abort>(rt: &R, alloc: Global, traces: &mut Traces, long: Long) -> Result<(), Fail> {
+fn add(rt: &impl Abort, alloc: Global, traces: &mut Traces, long: Long) -> Result<(), Fail> {
     let text = long.text(alloc)?;
     let manner = Manner {
         is_painted: false,
@@ -259,14 +279,22 @@ fn add<R: Abort>(rt: &R, alloc: Global, traces: &mut Traces, long: Long) -> Resu
     Ok(())
 }
 
+/// These texts together.
+fn added(rt: &impl Abort, alloc: Global, texts: &[Long]) -> Result<Traces, Fail> {
+    let mut traces = Traces::new(alloc);
+    for long in texts {
+        add(rt, alloc, &mut traces, *long)?;
+    }
+    Ok(traces)
+}
+
+/// Traces of which the first and the last are one.
+const TOGETHER: &[Long] = &[RACED, RECORDED, RACED];
+
 #[test]
 fn long_traces_are_explained_together(rt: HostRuntime) -> Result<(), Fail> {
-    let alloc = rt.alloc();
-    let mut traces = Traces::new(alloc);
-    add(&rt, alloc, &mut traces, RACED)?;
-    add(&rt, alloc, &mut traces, RECORDED)?;
-    add(&rt, alloc, &mut traces, RACED)?;
-    let told = traces.to_message(alloc, Extent::First, Rendering::Text)?;
+    let traces = added(&rt, rt.alloc(), TOGETHER)?;
+    let told = traces.to_message(rt.alloc(), Extent::First, Rendering::Text)?;
     assert_eq!(rt; told.as_slice(), TOGETHER_TOLD.as_bytes());
     assert_eq!(rt; traces.status(), 1);
     Ok(())

@@ -1,45 +1,48 @@
 //! Parts of a recording, whose pairs are told together where they part at one spawn.
 
-use super::Wanted;
 use super::Wanted::Text;
-use super::hosts::{Deed, Texts, check_either};
+use super::hosts::{Deed, Done, Texts, check_deeds};
 use std::test::Fail;
 
 /// Parts in which a spawn on line 5, or at a place that a note names, is outstanding at a read.
-const PARTED: Texts<'static> = Texts {
-    input: "",
-    files: &[
-        (
-            "first",
-            "cilk 1\nmem x\n#run one write\nspawn 0 @5\nwrite 1 x 7 @9\nread 2 x @6\n",
-        ),
-        (
-            "later",
-            "cilk 1\nmem y\nspawn 0 @5\nwrite 1 y 3 @8\nread 2 y @7\n",
-        ),
-        (
-            "same",
-            "cilk 1\nmem y\nspawn 0 @5\nwrite 1 y 3 @8\nread 2 y @6\n",
-        ),
-        ("unset", "cilk 1\nreducer h sum\nget 0 h @3\n"),
-        (
-            "behind",
-            "cilk 1\nmem x\nspawn 0 @5\nwrite 1 x 7 @9\nread 2 x @6\nread 2 x @7\n",
-        ),
-        (
-            "here",
-            "cilk 1\nmem x\n#at 5 q.c:12, main\n#at 6 q.c:13, main\n#at 9 q.c:3, f\nspawn 0 @5\nwrite 1 x 7 @9\nread 2 x @6\n",
-        ),
-        (
-            "there",
-            "cilk 1\nmem x\n#at 5 r.c:20, main\n#at 6 q.c:13, main\n#at 9 q.c:3, f\nspawn 0 @5\nwrite 1 x 7 @9\nread 2 x @6\n",
-        ),
-        (
-            "moved",
-            "cilk 1\nmem x\n#at 7 q.c:12, main\n#at 8 q.c:14, main\n#at 9 q.c:3, f\nspawn 0 @7\nwrite 1 x 7 @9\nread 2 x @8\n",
-        ),
-    ],
-};
+const PARTS: &[(&str, &str)] = &[
+    (
+        "first",
+        "cilk 1\nmem x\n#run one write\nspawn 0 @5\nwrite 1 x 7 @9\nread 2 x @6\n",
+    ),
+    (
+        "later",
+        "cilk 1\nmem y\nspawn 0 @5\nwrite 1 y 3 @8\nread 2 y @7\n",
+    ),
+    (
+        "same",
+        "cilk 1\nmem y\nspawn 0 @5\nwrite 1 y 3 @8\nread 2 y @6\n",
+    ),
+    ("unset", "cilk 1\nreducer h sum\nget 0 h @3\n"),
+    (
+        "behind",
+        "cilk 1\nmem x\nspawn 0 @5\nwrite 1 x 7 @9\nread 2 x @6\nread 2 x @7\n",
+    ),
+    (
+        "here",
+        "cilk 1\nmem x\n#at 5 q.c:12, main\n#at 6 q.c:13, main\n#at 9 q.c:3, f\nspawn 0 @5\nwrite 1 x 7 @9\nread 2 x @6\n",
+    ),
+    (
+        "there",
+        "cilk 1\nmem x\n#at 5 r.c:20, main\n#at 6 q.c:13, main\n#at 9 q.c:3, f\nspawn 0 @5\nwrite 1 x 7 @9\nread 2 x @6\n",
+    ),
+    (
+        "moved",
+        "cilk 1\nmem x\n#at 7 q.c:12, main\n#at 8 q.c:14, main\n#at 9 q.c:3, f\nspawn 0 @7\nwrite 1 x 7 @9\nread 2 x @8\n",
+    ),
+];
+
+fn parted() -> Texts<'static> {
+    Texts {
+        input: "",
+        files: PARTS,
+    }
+}
 
 /// A sync before line 6 comes too late in the second part for all that is known, where the spawner goes on to line 7.
 const LATER: &str =
@@ -172,31 +175,19 @@ race: write-read on x, 1 time
 ";
 
 /// What is told of several parts.
-const GROUPED: &[(Texts<'static>, Deed, Wanted<'static>)] = &[
-    (PARTED, Deed::Explain(&["first", "later"]), Text(1, LATER)),
+const GROUPED: &[Done] = &[
+    (Deed::Explain(&["first", "later"]), Text(1, LATER)),
+    (Deed::Explain(&["first", "unset", "same"]), Text(1, SAME)),
     (
-        PARTED,
-        Deed::Explain(&["first", "unset", "same"]),
-        Text(1, SAME),
-    ),
-    (
-        PARTED,
         Deed::ExplainAsJson(&["first", "unset", "same"]),
         Text(1, SAME_RECORD),
     ),
-    (PARTED, Deed::Explain(&["behind", "unset"]), Text(1, BEHIND)),
-    (
-        PARTED,
-        Deed::Explain(&["here", "there", "moved"]),
-        Text(1, PLACED),
-    ),
+    (Deed::Explain(&["behind", "unset"]), Text(1, BEHIND)),
+    (Deed::Explain(&["here", "there", "moved"]), Text(1, PLACED)),
 ];
 
 /// Pairs of several parts whose spawns are told alike are one group, by the rule of one part.
 #[test]
 fn pairs_of_several_parts_are_told_in_groups(rt: HostRuntime) -> Result<(), Fail> {
-    for case in GROUPED {
-        check_either(&rt, rt.alloc(), case)?;
-    }
-    Ok(())
+    check_deeds(&rt, rt.alloc(), parted(), GROUPED)
 }

@@ -2,7 +2,7 @@
 
 use super::Command::Judge;
 use super::Wanted::{Fault, Text, Unread};
-use super::{MOST, Wanted, check, push_number};
+use super::{Command, MOST, Wanted, check, push_number};
 use crate::devices::{Breaking, Giving};
 use std::alloc::{AllocError, Global};
 use std::process::Abort;
@@ -41,6 +41,9 @@ fn zeros(alloc: Global, reads: u32) -> Result<String, AllocError> {
     Ok(lines)
 }
 
+/// How many bytes a reader gives at each read at most.
+const PIECES: &[usize] = &[1, 7, 131_072];
+
 /// Of this text the judge does what is wanted, in whatever pieces it comes.
 fn check_pieces<R: Abort + Threads + Wait + Sync>(
     rt: &R,
@@ -48,8 +51,9 @@ fn check_pieces<R: Abort + Threads + Wait + Sync>(
     text: &[u8],
     wanted: Wanted<'_>,
 ) {
-    for most in [1usize, 7, 131_072] {
-        check(rt, alloc, Judge(MOST), Giving { text, most }, wanted);
+    for most in PIECES {
+        let reader = Giving { text, most: *most };
+        check(rt, alloc, Judge(MOST), reader, wanted);
     }
 }
 
@@ -117,14 +121,25 @@ fn a_fault_behind_the_first_piece(rt: HostRuntime) -> Result<(), Fail> {
     Ok(())
 }
 
+/// A reader of this text that fails behind so many reads is told.
+pub(super) fn check_broken<R: Abort + Threads + Wait + Sync>(
+    rt: &R,
+    alloc: Global,
+    command: Command<'_>,
+    long: Long,
+    left: u32,
+) -> Result<(), Fail> {
+    let text = long.text(alloc)?;
+    let reader = Breaking {
+        text: text.as_bytes(),
+        left,
+    };
+    check(rt, alloc, command, reader, Unread(left));
+    Ok(())
+}
+
 /// A reader that fails behind the faulty lines, which are 180,035 bytes, is told in place of their fault.
 #[test]
 fn a_failure_behind_a_fault(rt: HostRuntime) -> Result<(), Fail> {
-    let text = FAULTY.text(rt.alloc())?;
-    let reader = Breaking {
-        text: text.as_bytes(),
-        left: 180_035,
-    };
-    check(&rt, rt.alloc(), Judge(MOST), reader, Unread(180_035));
-    Ok(())
+    check_broken(&rt, rt.alloc(), Judge(MOST), FAULTY, 180_035)
 }

@@ -98,268 +98,267 @@ fn check(rt: &impl Abort, alloc: Global, line: &str, asks: Asks<'_>) -> Result<(
     Ok(())
 }
 
-/// Words, and what they ask for.
-const LINES: &[(&str, Asks<'static>)] = &[
-    // Words of each command, and the job that they ask for.
-    ("judge", Does("Judge { file: None, limit: 1000000 }")),
-    ("judge --limit 3", Does("Judge { file: None, limit: 3 }")),
-    ("judge --limit=0", Does("Judge { file: None, limit: 0 }")),
+/// The words of each line ask for the job that is printed so.
+fn check_jobs(rt: &impl Abort, alloc: Global, lines: &[(&str, &str)]) -> Result<(), Fail> {
+    for (line, job) in lines {
+        check(rt, alloc, line, Does(job))?;
+    }
+    Ok(())
+}
+
+/// The words of each line are refused with this text.
+fn check_refused(rt: &impl Abort, alloc: Global, lines: &[(&str, &str)]) -> Result<(), Fail> {
+    for (line, why) in lines {
+        check(rt, alloc, line, Refused(why))?;
+    }
+    Ok(())
+}
+
+/// Words that ask for a verdict, an elision or a run, and the job.
+const JUDGED: &[(&str, &str)] = &[
+    ("judge", "Judge { file: None, limit: 1000000 }"),
+    ("judge --limit 3", "Judge { file: None, limit: 3 }"),
+    ("judge --limit=0", "Judge { file: None, limit: 0 }"),
     (
         "judge --limit 1000000",
-        Does("Judge { file: None, limit: 1000000 }"),
+        "Judge { file: None, limit: 1000000 }",
+    ),
+    ("judge f", "Judge { file: Some(\"f\"), limit: 1000000 }"),
+    ("judge f --limit 3", "Judge { file: Some(\"f\"), limit: 3 }"),
+    ("judge --limit=0 f", "Judge { file: Some(\"f\"), limit: 0 }"),
+    ("elide f", "Elide { file: \"f\", limit: 1000000 }"),
+    ("elide f --limit 713", "Elide { file: \"f\", limit: 713 }"),
+    ("elide --limit=0 f", "Elide { file: \"f\", limit: 0 }"),
+    ("run f", "Run { file: \"f\", workers: 2, limit: 1000000 }"),
+    (
+        "run f --workers 1",
+        "Run { file: \"f\", workers: 1, limit: 1000000 }",
     ),
     (
-        "judge f",
-        Does("Judge { file: Some(\"f\"), limit: 1000000 }"),
+        "run --workers=64 f --limit 5",
+        "Run { file: \"f\", workers: 64, limit: 5 }",
     ),
     (
-        "judge f --limit 3",
-        Does("Judge { file: Some(\"f\"), limit: 3 }"),
+        "run f --trace g",
+        "Record { file: \"f\", workers: 2, limit: 1000000, trace: \"g\" }",
     ),
     (
-        "judge --limit=0 f",
-        Does("Judge { file: Some(\"f\"), limit: 0 }"),
+        "run --trace=g f --workers 8 --limit 5",
+        "Record { file: \"f\", workers: 8, limit: 5, trace: \"g\" }",
     ),
     // The name of a file has any length.
     (
         "run a_name_that_is_longer_than_the_names_of_a_text_may_be_and_than_64_bytes_as_well.cilk",
-        Does(
-            "Run { file: \"a_name_that_is_longer_than_the_names_of_a_text_may_be_and_than_64_bytes_as_well.cilk\", workers: 2, limit: 1000000 }",
-        ),
+        "Run { file: \"a_name_that_is_longer_than_the_names_of_a_text_may_be_and_than_64_bytes_as_well.cilk\", workers: 2, limit: 1000000 }",
     ),
     (
         "run f --trace a_name_that_is_longer_than_the_names_of_a_text_may_be_and_than_64_bytes_as_well.trace",
-        Does(
-            "Record { file: \"f\", workers: 2, limit: 1000000, trace: \"a_name_that_is_longer_than_the_names_of_a_text_may_be_and_than_64_bytes_as_well.trace\" }",
-        ),
+        "Record { file: \"f\", workers: 2, limit: 1000000, trace: \"a_name_that_is_longer_than_the_names_of_a_text_may_be_and_than_64_bytes_as_well.trace\" }",
     ),
-    ("elide f", Does("Elide { file: \"f\", limit: 1000000 }")),
-    (
-        "elide f --limit 713",
-        Does("Elide { file: \"f\", limit: 713 }"),
-    ),
-    ("elide --limit=0 f", Does("Elide { file: \"f\", limit: 0 }")),
-    (
-        "run f",
-        Does("Run { file: \"f\", workers: 2, limit: 1000000 }"),
-    ),
-    (
-        "run f --workers 1",
-        Does("Run { file: \"f\", workers: 1, limit: 1000000 }"),
-    ),
-    (
-        "run --workers=64 f --limit 5",
-        Does("Run { file: \"f\", workers: 64, limit: 5 }"),
-    ),
-    (
-        "run f --trace g",
-        Does("Record { file: \"f\", workers: 2, limit: 1000000, trace: \"g\" }"),
-    ),
-    (
-        "run --trace=g f --workers 8 --limit 5",
-        Does("Record { file: \"f\", workers: 8, limit: 5, trace: \"g\" }"),
-    ),
+];
+
+#[test]
+fn words_for_verdicts_elisions_and_runs(rt: HostRuntime) -> Result<(), Fail> {
+    check_jobs(&rt, rt.alloc(), JUDGED)
+}
+
+/// Words that ask for an explanation.
+const EXPLAINED: &[(&str, &str)] = &[
     (
         "explain f",
-        Does(
-            "Explain { file: \"f\", workers: 2, is_serial: false, limit: 1000000, color: Auto, format: Text, is_all: false }",
-        ),
+        "Explain { file: \"f\", workers: 2, is_serial: false, limit: 1000000, color: Auto, format: Text, is_all: false }",
     ),
     (
         "explain f --color always --workers 8",
-        Does(
-            "Explain { file: \"f\", workers: 8, is_serial: false, limit: 1000000, color: Always, format: Text, is_all: false }",
-        ),
+        "Explain { file: \"f\", workers: 8, is_serial: false, limit: 1000000, color: Always, format: Text, is_all: false }",
     ),
     (
         "explain --color=never f --limit 5",
-        Does(
-            "Explain { file: \"f\", workers: 2, is_serial: false, limit: 5, color: Never, format: Text, is_all: false }",
-        ),
+        "Explain { file: \"f\", workers: 2, is_serial: false, limit: 5, color: Never, format: Text, is_all: false }",
     ),
     (
         "explain - --workers 8",
-        Does(
-            "ExplainInput { workers: 8, is_serial: false, limit: 1000000, color: Auto, format: Text, is_all: false }",
-        ),
+        "ExplainInput { workers: 8, is_serial: false, limit: 1000000, color: Auto, format: Text, is_all: false }",
     ),
     (
         "explain f g h --color never",
-        Does(
-            "ExplainTraces { files: [\"f\", \"g\", \"h\"], color: Never, format: Text, is_all: false }",
-        ),
+        "ExplainTraces { files: [\"f\", \"g\", \"h\"], color: Never, format: Text, is_all: false }",
     ),
     (
         "explain --color always f g",
-        Does("ExplainTraces { files: [\"f\", \"g\"], color: Always, format: Text, is_all: false }"),
+        "ExplainTraces { files: [\"f\", \"g\"], color: Always, format: Text, is_all: false }",
     ),
     (
         "explain --serial f",
-        Does(
-            "Explain { file: \"f\", workers: 2, is_serial: true, limit: 1000000, color: Auto, format: Text, is_all: false }",
-        ),
+        "Explain { file: \"f\", workers: 2, is_serial: true, limit: 1000000, color: Auto, format: Text, is_all: false }",
     ),
     (
         "explain --format json f",
-        Does(
-            "Explain { file: \"f\", workers: 2, is_serial: false, limit: 1000000, color: Auto, format: Json, is_all: false }",
-        ),
+        "Explain { file: \"f\", workers: 2, is_serial: false, limit: 1000000, color: Auto, format: Json, is_all: false }",
     ),
     (
         "explain - --format=json",
-        Does(
-            "ExplainInput { workers: 2, is_serial: false, limit: 1000000, color: Auto, format: Json, is_all: false }",
-        ),
+        "ExplainInput { workers: 2, is_serial: false, limit: 1000000, color: Auto, format: Json, is_all: false }",
     ),
     (
         "explain f --format sarif",
-        Does(
-            "Explain { file: \"f\", workers: 2, is_serial: false, limit: 1000000, color: Auto, format: Sarif, is_all: false }",
-        ),
+        "Explain { file: \"f\", workers: 2, is_serial: false, limit: 1000000, color: Auto, format: Sarif, is_all: false }",
     ),
     (
         "explain f g --format json",
-        Does("ExplainTraces { files: [\"f\", \"g\"], color: Auto, format: Json, is_all: false }"),
+        "ExplainTraces { files: [\"f\", \"g\"], color: Auto, format: Json, is_all: false }",
     ),
     (
         "explain f --format text",
-        Does(
-            "Explain { file: \"f\", workers: 2, is_serial: false, limit: 1000000, color: Auto, format: Text, is_all: false }",
-        ),
+        "Explain { file: \"f\", workers: 2, is_serial: false, limit: 1000000, color: Auto, format: Text, is_all: false }",
     ),
     (
         "explain f --all",
-        Does(
-            "Explain { file: \"f\", workers: 2, is_serial: false, limit: 1000000, color: Auto, format: Text, is_all: true }",
-        ),
+        "Explain { file: \"f\", workers: 2, is_serial: false, limit: 1000000, color: Auto, format: Text, is_all: true }",
     ),
     (
         "explain --all - --serial",
-        Does(
-            "ExplainInput { workers: 2, is_serial: true, limit: 1000000, color: Auto, format: Text, is_all: true }",
-        ),
+        "ExplainInput { workers: 2, is_serial: true, limit: 1000000, color: Auto, format: Text, is_all: true }",
     ),
     (
         "explain f g --all",
-        Does("ExplainTraces { files: [\"f\", \"g\"], color: Auto, format: Text, is_all: true }"),
+        "ExplainTraces { files: [\"f\", \"g\"], color: Auto, format: Text, is_all: true }",
     ),
-    ("replay f g", Does("Replay { file: \"f\", trace: \"g\" }")),
-    ("draw g", Does("Draw { file: \"g\", language: Dot }")),
-    ("draw g --svg", Does("Draw { file: \"g\", language: Svg }")),
-    ("draw --svg g", Does("Draw { file: \"g\", language: Svg }")),
+];
+
+#[test]
+fn words_for_explanations(rt: HostRuntime) -> Result<(), Fail> {
+    check_jobs(&rt, rt.alloc(), EXPLAINED)
+}
+
+/// Words that ask for a replay or a drawing, and names.
+const NAMED: &[(&str, &str)] = &[
+    ("replay f g", "Replay { file: \"f\", trace: \"g\" }"),
+    ("draw g", "Draw { file: \"g\", language: Dot }"),
+    ("draw g --svg", "Draw { file: \"g\", language: Svg }"),
+    ("draw --svg g", "Draw { file: \"g\", language: Svg }"),
     // The name of standard input.
-    (
-        "judge -",
-        Does("Judge { file: Some(\"-\"), limit: 1000000 }"),
-    ),
-    ("elide - --limit 4", Does("Elide { file: \"-\", limit: 4 }")),
+    ("judge -", "Judge { file: Some(\"-\"), limit: 1000000 }"),
+    ("elide - --limit 4", "Elide { file: \"-\", limit: 4 }"),
     (
         "run - --workers 3",
-        Does("Run { file: \"-\", workers: 3, limit: 1000000 }"),
+        "Run { file: \"-\", workers: 3, limit: 1000000 }",
     ),
-    ("replay - g", Does("Replay { file: \"-\", trace: \"g\" }")),
-    ("replay f -", Does("Replay { file: \"f\", trace: \"-\" }")),
-    ("draw -", Does("Draw { file: \"-\", language: Dot }")),
+    ("replay - g", "Replay { file: \"-\", trace: \"g\" }"),
+    ("replay f -", "Replay { file: \"f\", trace: \"-\" }"),
+    ("draw -", "Draw { file: \"-\", language: Dot }"),
     // That of standard output.
     (
         "run f --trace -",
-        Does("Trace { file: \"f\", workers: 2, limit: 1000000 }"),
+        "Trace { file: \"f\", workers: 2, limit: 1000000 }",
     ),
     (
         "run --trace - f --workers 8",
-        Does("Trace { file: \"f\", workers: 8, limit: 1000000 }"),
+        "Trace { file: \"f\", workers: 8, limit: 1000000 }",
     ),
     (
         "run - --trace=- --limit 5",
-        Does("Trace { file: \"-\", workers: 2, limit: 5 }"),
+        "Trace { file: \"-\", workers: 2, limit: 5 }",
     ),
     (
         "run f --trace ./-",
-        Does("Record { file: \"f\", workers: 2, limit: 1000000, trace: \"./-\" }"),
+        "Record { file: \"f\", workers: 2, limit: 1000000, trace: \"./-\" }",
     ),
-    // Words that ask for nothing, and why.
-    ("replay - -", Refused(INPUT_TWICE)),
-    ("run - --trace g", Refused(OF_INPUT)),
-    ("judge --limit 1000001", Refused(NO_LIMIT)),
-    ("judge --limit many", Refused(NO_LIMIT)),
-    ("elide f --limit 1000001", Refused(NO_LIMIT)),
-    ("run f --workers 0", Refused(NO_WORKERS)),
-    ("run f --workers 65", Refused(NO_WORKERS)),
-    ("explain f --color red", Refused(NO_COLOR)),
-    ("explain f --format xml", Refused(NO_FORMAT)),
-    ("explain f g --format JSON", Refused(NO_FORMAT)),
-    ("elide", Refused(NO_FILE)),
-    ("elide f g", Refused("unexpected argument 'g' found")),
-    ("explain", Refused(NO_FILE)),
-    ("explain f - g", Refused(INPUT_AMONG_FILES)),
-    ("explain f g --workers 2", Refused(RUN_OF_SEVERAL)),
-    ("explain --limit 5 f g", Refused(RUN_OF_SEVERAL)),
-    ("replay f", Refused(NO_FILE)),
-    ("replay f g h", Refused("unexpected argument 'h' found")),
-    ("draw", Refused(NO_FILE)),
-    ("draw --svg", Refused(NO_FILE)),
-    ("draw g h", Refused("unexpected argument 'h' found")),
-    ("judge x y", Refused("unexpected argument 'y' found")),
-    ("run --trace f", Refused(NO_FILE)),
-    ("run f --trace f", Refused(OVER_PROGRAM)),
-    ("run f --trace g --limit 1000001", Refused(NO_LIMIT)),
-    (
-        "elide f --trace g",
-        Refused("unexpected argument '--trace' found"),
-    ),
+];
+
+#[test]
+fn words_for_replays_and_drawings_and_names_of_streams(rt: HostRuntime) -> Result<(), Fail> {
+    check_jobs(&rt, rt.alloc(), NAMED)
+}
+
+/// Values that are refused, and why.
+const INVALID: &[(&str, &str)] = &[
+    ("judge --limit 1000001", NO_LIMIT),
+    ("judge --limit many", NO_LIMIT),
+    ("elide f --limit 1000001", NO_LIMIT),
+    ("run f --workers 0", NO_WORKERS),
+    ("run f --workers 65", NO_WORKERS),
+    ("explain f --color red", NO_COLOR),
+    ("explain f --format xml", NO_FORMAT),
+    ("explain f g --format JSON", NO_FORMAT),
+    ("run f --trace g --limit 1000001", NO_LIMIT),
+];
+
+#[test]
+fn invalid_values(rt: HostRuntime) -> Result<(), Fail> {
+    check_refused(&rt, rt.alloc(), INVALID)
+}
+
+/// Files that are refused, or lacking.
+const FILES: &[(&str, &str)] = &[
+    ("replay - -", INPUT_TWICE),
+    ("run - --trace g", OF_INPUT),
+    ("elide", NO_FILE),
+    ("explain", NO_FILE),
+    ("explain f - g", INPUT_AMONG_FILES),
+    ("explain f g --workers 2", RUN_OF_SEVERAL),
+    ("explain --limit 5 f g", RUN_OF_SEVERAL),
+    ("replay f", NO_FILE),
+    ("draw", NO_FILE),
+    ("draw --svg", NO_FILE),
+    ("run --trace f", NO_FILE),
+    ("run f --trace f", OVER_PROGRAM),
+];
+
+#[test]
+fn files_that_are_refused_or_lacking(rt: HostRuntime) -> Result<(), Fail> {
+    check_refused(&rt, rt.alloc(), FILES)
+}
+
+/// Words that are not expected.
+const UNKNOWN: &[(&str, &str)] = &[
+    ("elide f g", "unexpected argument 'g' found"),
+    ("replay f g h", "unexpected argument 'h' found"),
+    ("draw g h", "unexpected argument 'h' found"),
+    ("judge x y", "unexpected argument 'y' found"),
+    ("elide f --trace g", "unexpected argument '--trace' found"),
     // A word that is none, and which may be meant.
     (
         "jugde",
-        Refused("unrecognized subcommand 'jugde'; a similar subcommand exists: 'judge'"),
+        "unrecognized subcommand 'jugde'; a similar subcommand exists: 'judge'",
     ),
     (
         "expain f",
-        Refused("unrecognized subcommand 'expain'; a similar subcommand exists: 'explain'"),
+        "unrecognized subcommand 'expain'; a similar subcommand exists: 'explain'",
     ),
     (
         "explain f --serail",
-        Refused("unexpected argument '--serail' found; a similar argument exists: '--serial'"),
+        "unexpected argument '--serail' found; a similar argument exists: '--serial'",
     ),
-    ("find f", Refused("unrecognized subcommand 'find'")),
-    ("", Refused("no command is given; see 'cilkcheck --help'")),
-    // Words that ask for the help or the version.
-    ("--help", Shows("Usage: cilkcheck [COMMAND]\n")),
-    (
-        "judge --help",
-        Shows("Usage: cilkcheck judge [OPTIONS] [FILE]\n"),
-    ),
-    (
-        "elide --help",
-        Shows("Usage: cilkcheck elide [OPTIONS] <FILE>\n"),
-    ),
-    (
-        "run --help",
-        Shows("Usage: cilkcheck run [OPTIONS] <FILE>\n"),
-    ),
-    (
-        "explain --help",
-        Shows("Usage: cilkcheck explain [OPTIONS] <FILE>...\n"),
-    ),
-    (
-        "replay --help",
-        Shows("Usage: cilkcheck replay <FILE> <TRACE>\n"),
-    ),
-    (
-        "draw --help",
-        Shows("Usage: cilkcheck draw [OPTIONS] <TRACE>\n"),
-    ),
-    (
-        "draw --help",
-        Shows("cilkcheck draw both.trace --svg > dag.svg\n"),
-    ),
-    ("--version", Shows("cilkcheck 0.1.0\n")),
+    ("find f", "unrecognized subcommand 'find'"),
+    ("", "no command is given; see 'cilkcheck --help'"),
 ];
 
-/// Each line's words ask for a job, for a text that is shown, or for nothing, and are refused.
 #[test]
-fn words_of_each_command(rt: HostRuntime) -> Result<(), Fail> {
-    for (line, asks) in LINES {
-        check(&rt, rt.alloc(), line, *asks)?;
+fn words_that_are_not_expected(rt: HostRuntime) -> Result<(), Fail> {
+    check_refused(&rt, rt.alloc(), UNKNOWN)
+}
+
+/// Words that ask for the help or the version, and a part of it.
+const SHOWN: &[(&str, &str)] = &[
+    ("--help", "Usage: cilkcheck [COMMAND]\n"),
+    ("judge --help", "Usage: cilkcheck judge [OPTIONS] [FILE]\n"),
+    ("elide --help", "Usage: cilkcheck elide [OPTIONS] <FILE>\n"),
+    ("run --help", "Usage: cilkcheck run [OPTIONS] <FILE>\n"),
+    (
+        "explain --help",
+        "Usage: cilkcheck explain [OPTIONS] <FILE>...\n",
+    ),
+    ("replay --help", "Usage: cilkcheck replay <FILE> <TRACE>\n"),
+    ("draw --help", "Usage: cilkcheck draw [OPTIONS] <TRACE>\n"),
+    ("draw --help", "cilkcheck draw both.trace --svg > dag.svg\n"),
+    ("--version", "cilkcheck 0.1.0\n"),
+];
+
+#[test]
+fn words_for_the_help_or_the_version(rt: HostRuntime) -> Result<(), Fail> {
+    for (line, part) in SHOWN {
+        check(&rt, rt.alloc(), line, Shows(part))?;
     }
     Ok(())
 }
