@@ -57,6 +57,11 @@ use Rattle.model_histories.specs.States.{GateState}
 use Rattle.tool_commands.specs.declared.ask.Stop.{Stop}
 use Rattle.tool_commands.specs.Replays.{AnswersAll, StopsAt, StopsGate}
 use Rattle.tool_commands.specs.Sorts.{is_program_text}
+use Rattle.tool_commands.specs.Digested.{IsDigested}
+use Rattle.tool_commands.specs.declared.explain_trace.Judged.{Judged}
+use Rattle.tool_commands.specs.declared.explain_trace.Judged.TheVariants.{Whole, Stopped}
+use Rattle.race_pairs.specs.Digests.{most_of}
+use Rattle.race_explanations.specs.Extents.{most_pairs}
 
 -- how it is told: whether words are painted, in which form, how much of races, and by which name the text's file is called
 pub record Manner : Type 0 where
@@ -299,6 +304,12 @@ pub record IsIllegalTold (manner : Manner) (text : List ℕ) (told : List ℕ) (
   pub reason : HasReason gate stop.request why
   pub tells : TellsIllegal manner text trace stop.number why told
   pub status_is : status ≡ 2
+
+-- What comes of the requests of the trace that the text means: the digest of the entries, for what is told in this form, or what is told of
+-- the first illegal one.
+abbrev pub IsJudgedSo : Manner → (text : List ℕ) → TraceContents → Judged → Type 0
+IsJudgedSo manner text trace (Whole digest) = IsDigested trace digest × (most_of digest ≡ most_pairs manner.extent)
+IsJudgedSo manner text trace (Stopped told) = IsIllegalTold manner text told.items 2
 
 -- It is told why no trace is judged to its end: by a fault of the text, or by an illegal request.
 abbrev pub IsUnjudgedTold : Manner → (text : List ℕ) → (told : List ℕ) → (status : ℕ) → Type 0

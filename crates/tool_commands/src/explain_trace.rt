@@ -15,7 +15,7 @@ ghost use Rattle.tool_commands.specs.Digested.{IsDigested};
 ghost use Rattle.tool_commands.specs.Replays.{AnswersAll, StopsAt, StopsGate};
 ghost use Rattle.tool_commands.specs.Explanations.{clean_trace_words, recorded_line, recorded_text, judged_text, TellsEntries, IsTraceTold, IsIllegalTold, IsUnjudgedTold};
 ghost use Rattle.tool_commands.specs.Explanations.{Manner as SpecManner, IsUntoldTrace, ending_of, RecordsTrace};
-ghost use Rattle.tool_commands.specs.Explanations.{ExplainsTrace, TellsTrace, TellsIllegal};
+ghost use Rattle.tool_commands.specs.Explanations.{ExplainsTrace, TellsTrace, TellsIllegal, IsJudgedSo};
 
 use crate::ask::{Stop, ask_all};
 use crate::clean::clean_count;
@@ -222,7 +222,7 @@ fn explain_stop(
 }
 
 /// The same of a text that is kept, which stands as a whole then.
-pub(crate) fn explain_kept_stop(
+fn explain_kept_stop(
     alloc: Global,
     manner: &Manner<'_>,
     source: &KeptText<Global>,
@@ -302,7 +302,7 @@ fn explain_judged(
 }
 
 /// The digest of the entries of a gate that answered all requests of a trace, which keeps so many pairs.
-pub(crate) fn digest_of_gate(
+fn digest_of_gate(
     alloc: Global,
     trace: &Trace<Global>,
     gate: &Gate<Global>,
@@ -334,31 +334,57 @@ fn explain_clean_trace(
     Ok(told)
 }
 
-/// What is told of a trace that a text means, and the exit status, by a gate that keeps the history.
-fn explain_history(
+/// What comes of the requests of a trace.
+#[derive(Drop)]
+pub(crate) enum Judged {
+    /// Each was answered, and this is the digest of the entries.
+    Whole(Digest),
+    /// What is told of the first illegal one.
+    Stopped(Vec<u8>),
+}
+
+/// What comes of the requests of a trace that a text means, by a gate that keeps the history.
+fn judge_history(
     alloc: Global,
     manner: &Manner<'_>,
     source: &KeptText<Global>,
     trace: &Trace<Global>,
-) -> Result<(Vec<u8>, u8), CliFault>
+) -> Result<Judged, CliFault>
     requires { KeepsTrace source.now (trace_contents trace.now) }
-    ensures ok { IfOk result (λ told. IsTraceTold manner.now (text_of source.now) told.0.items told.1 ⊎ IsUnjudgedTold manner.now (text_of source.now) told.0.items told.1) }
+    ensures ok { IfOk result (IsJudgedSo manner.now (text_of source.now) (trace_contents trace.now)) }
     ensures fault { IfErr result (λ fault. (fault ≡ CliFault.Memory) ⊎ StopsGate (trace_contents trace.now) fault) }
 {
     let (gate, stop) = ask_all(alloc, trace)?;
     match stop {
         None => {
             let digest = digest_of_gate(alloc, trace, &gate, most_pairs(manner.extent))?;
-            Ok(explain_judged(alloc, manner, source, trace, &digest)?)
+            Ok(Judged::Whole(digest))
         }
         Some(stop) => {
             let told = explain_kept_stop(alloc, manner, source, trace, &gate, stop)?;
-            Ok((told, 2))
+            Ok(Judged::Stopped(told))
         }
     }
 }
 
-/// What is told of a trace that a text means, and the exit status. A history is kept only where a request is illegal.
+/// What comes of the requests of a trace that a text means. A history is kept only where a request is illegal.
+pub(crate) fn judge_trace(
+    alloc: Global,
+    manner: &Manner<'_>,
+    source: &KeptText<Global>,
+    trace: &Trace<Global>,
+) -> Result<Judged, CliFault>
+    requires { KeepsTrace source.now (trace_contents trace.now) }
+    ensures ok { IfOk result (IsJudgedSo manner.now (text_of source.now) (trace_contents trace.now)) }
+    ensures fault { IfErr result (λ fault. (fault ≡ CliFault.Memory) ⊎ StopsGate (trace_contents trace.now) fault) }
+{
+    match digest_of_trace(alloc, trace, most_pairs(manner.extent))? {
+        Some(digest) => Ok(Judged::Whole(digest)),
+        None => judge_history(alloc, manner, source, trace),
+    }
+}
+
+/// What is told of a trace that a text means, and the exit status.
 fn digest_told(
     alloc: Global,
     manner: &Manner<'_>,
@@ -369,9 +395,9 @@ fn digest_told(
     ensures ok { IfOk result (λ told. IsTraceTold manner.now (text_of source.now) told.0.items told.1 ⊎ IsUnjudgedTold manner.now (text_of source.now) told.0.items told.1) }
     ensures fault { IfErr result (λ fault. (fault ≡ CliFault.Memory) ⊎ StopsGate (trace_contents trace.now) fault) }
 {
-    match digest_of_trace(alloc, trace, most_pairs(manner.extent))? {
-        Some(digest) => Ok(explain_judged(alloc, manner, source, trace, &digest)?),
-        None => explain_history(alloc, manner, source, trace),
+    match judge_trace(alloc, manner, source, trace)? {
+        Judged::Whole(digest) => Ok(explain_judged(alloc, manner, source, trace, &digest)?),
+        Judged::Stopped(told) => Ok((told, 2)),
     }
 }
 

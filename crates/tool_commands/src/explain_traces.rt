@@ -17,10 +17,8 @@ ghost use Rattle.race_pairs.specs.Digests.{IsDigest, most_of};
 ghost use Rattle.race_explanations.specs.Extents.{most_pairs};
 ghost use Rattle.tool_commands.specs.Together.{AddsText, TakesText, TakesReading, StopsTaking};
 
-use crate::ask::ask_all;
 use crate::explain::{Manner, Rendering, faults_told};
-use crate::explain_trace::{digest_of_gate, explain_kept_stop, notes_of_kept, push_run};
-use crate::judged::digest_of_trace;
+use crate::explain_trace::{Judged, judge_trace, notes_of_kept, push_run};
 use command_streams::{CliFault, KeptText, Watched, read_kept};
 use fault_lists::Fault;
 use race_explanations::{Extent, Findings, most_pairs};
@@ -166,30 +164,7 @@ impl Traces {
         Ok(())
     }
 
-    /// Adds a trace that a text means, or tells its first illegal request, by a gate that keeps the history.
-    fn take_history(
-        &mut self,
-        alloc: Global,
-        manner: &Manner<'_>,
-        source: &KeptText<Global>,
-        trace: &Trace<Global>,
-    ) -> Result<Option<Vec<u8>>, CliFault>
-        requires { KeepsTrace source.now (trace_contents trace.now) }
-        ensures ok { IfOk result (TakesText manner.now (text_of source.now) (together_of self.old) (together_of self.new)) }
-        ensures fault { IfErr result (λ fault. (fault ≡ CliFault.Memory) ⊎ StopsGate (trace_contents trace.now) fault) }
-    {
-        let (gate, stop) = ask_all(alloc, trace)?;
-        match stop {
-            None => {
-                let digest = digest_of_gate(alloc, trace, &gate, most_pairs(manner.extent))?;
-                self.add(alloc, manner, source, trace, &digest)?;
-                Ok(None)
-            }
-            Some(stop) => Ok(Some(explain_kept_stop(alloc, manner, source, trace, &gate, stop)?)),
-        }
-    }
-
-    /// Adds a trace that a text means, or tells its first illegal request. A history is kept only where a request is illegal.
+    /// Adds a trace that a text means, or tells its first illegal request.
     fn take_trace(
         &mut self,
         alloc: Global,
@@ -201,12 +176,12 @@ impl Traces {
         ensures ok { IfOk result (TakesText manner.now (text_of source.now) (together_of self.old) (together_of self.new)) }
         ensures fault { IfErr result (λ fault. (fault ≡ CliFault.Memory) ⊎ StopsGate (trace_contents trace.now) fault) }
     {
-        match digest_of_trace(alloc, trace, most_pairs(manner.extent))? {
-            Some(digest) => {
+        match judge_trace(alloc, manner, source, trace)? {
+            Judged::Whole(digest) => {
                 self.add(alloc, manner, source, trace, &digest)?;
                 Ok(None)
             }
-            None => self.take_history(alloc, manner, source, trace),
+            Judged::Stopped(told) => Ok(Some(told)),
         }
     }
 
