@@ -3,11 +3,14 @@ use Rattle.std.proofs.Common.{◌≡◌, ◌≤◌, ◌⊎◌, ℕ, Bool, true, 
 use Rattle.std.specs.List.{list_any}
 use Rattle.model_histories.specs.declared.answer.Entry.{Entry}
 use Rattle.command_streams.specs.declared.fault.CliFault.{CliFault}
-use Rattle.command_streams.specs.declared.fault.CliFault.TheVariants.{Write, Memory}
+use Rattle.command_streams.specs.declared.fault.CliFault.TheVariants.{Read, Write, TooLong, Memory}
+use Rattle.model_histories.specs.declared.fault.GateFault.{GateFault}
+use Rattle.model_histories.specs.declared.fault.GateFault.TheVariants.{Stopped as GateStopped, Limit as GateLimit, NotRunning, BadName, Unsynced, Memory as GateMemory}
 use Rattle.verdict_lines.specs.VerdictText.{is_refused}
 use Rattle.tool_commands.specs.Outcomes.{refusal_status}
 use Rattle.command_streams.specs.Streams.{IsRead, StopsWriting}
-use Rattle.command_streams.specs.Readings.{Reading}
+use Rattle.command_streams.specs.Readings.{Reading, StopsReader}
+use Rattle.tool_commands.specs.Replays.{fault_of_request}
 use Rattle.tool_commands.specs.declared.explain.End.{End}
 use Rattle.tool_commands.specs.declared.explain.End.TheVariants.{Clean, Raced, Cut, CutRaced}
 use Rattle.tool_commands.specs.Sorts.{is_program_text}
@@ -29,6 +32,52 @@ explanation_cut manner reader wrote writes limit text told status Write read exp
   prefix = stops.3;
 }
 explanation_cut manner reader wrote writes limit text told status fault read explains stops = absurd stops
+
+-- no text is read
+pub no_text : (manner : Manner) (reader : Reading) (wrote writes : Option (List ℕ)) (limit : ℕ) (fault : CliFault) → StopsReader reader fault →
+    HasExplanationCause manner reader wrote writes limit fault
+no_text manner reader wrote writes limit Read stops = tt
+no_text manner reader wrote writes limit TooLong stops = stops
+no_text manner reader wrote writes limit Memory stops = tt
+no_text manner reader wrote writes limit fault stops = absurd stops
+
+-- reading or writing has failed
+abbrev IsOfDevice : CliFault → Type 0
+IsOfDevice Read = Unit {0}
+IsOfDevice Write = Unit {0}
+IsOfDevice TooLong = Unit {0}
+IsOfDevice fault = ⊥
+
+request_apart : (number : ℕ) (cause : GateFault) → IsOfDevice (fault_of_request number cause) → ⊥
+request_apart number GateStopped is = is
+request_apart number GateLimit is = is
+request_apart number NotRunning is = is
+request_apart number BadName is = is
+request_apart number Unsynced is = is
+request_apart number GateMemory is = is
+
+told_apart : (is_program : Bool) (text : List ℕ) (limit : ℕ) (fault : CliFault) → IsOfDevice fault → StopsTellingAs is_program text limit fault → ⊥
+told_apart true text limit Read is stops = stops.stops
+told_apart true text limit Write is stops = stops.stops
+told_apart true text limit TooLong is stops = stops.stops
+told_apart true text limit fault is stops = absurd is
+told_apart false text limit fault is stops = request_apart stops.stops.stop.number stops.stops.stop.fault (subst IsOfDevice stops.stops.named is)
+
+-- which is no reason why nothing is told of a text
+pub read_well : (text : List ℕ) (limit : ℕ) → StopsTelling text limit Read → ⊥
+read_well text limit stops = told_apart (is_program_text text) text limit Read tt stops
+
+pub not_writing : (text : List ℕ) (limit : ℕ) → StopsTelling text limit Write → ⊥
+not_writing text limit stops = told_apart (is_program_text text) text limit Write tt stops
+
+-- nothing is told of a text that was read
+pub untold_text : (manner : Manner) (reader : Reading) (wrote writes : Option (List ℕ)) (limit : ℕ) (text : List ℕ) (fault : CliFault) →
+    IsRead reader.before reader.behind text → StopsTelling text limit fault → HasExplanationCause manner reader wrote writes limit fault
+untold_text manner reader wrote writes limit text Read read stops = tt
+untold_text manner reader wrote writes limit text Write read stops = absurd (not_writing text limit stops)
+untold_text manner reader wrote writes limit text TooLong read stops = absurd (told_apart (is_program_text text) text limit TooLong tt stops)
+untold_text manner reader wrote writes limit text Memory read stops = tt
+untold_text manner reader wrote writes limit text fault read stops = record { text = text; read = read; untold = stops }
 
 -- its status is at most 4
 end_status : (end : End) → status_of_end end ≤ 4

@@ -19,6 +19,7 @@ mod DigestStatuses
 mod Unnoted
 mod Explaining
 mod Replaying
+mod Devices
 mod ReadPrograms
 mod Taking
 mod TraceTexts

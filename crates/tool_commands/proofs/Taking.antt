@@ -1,7 +1,7 @@
 -- The traces in several files, one after another.
-use Rattle.std.proofs.Common.{◌≡◌, ℕ, ◌+◌, ◌<◌, Option, Some, None, List, [], ◌∷◌, ◌++◌, length, Err, IsErrOf, refl, take, drop, map, get_or, inr, sym, ap, subst, ◌∙◌}
+use Rattle.std.proofs.Common.{◌≡◌, ℕ, ◌+◌, ◌<◌, ◌≤◌, Option, Some, None, List, [], ◌∷◌, ◌++◌, length, Err, IsErrOf, refl, take, drop, map, get_or, inr, sym, ap, subst, ◌∙◌}
 use Rattle.std.specs.Global.{Vec}
-use Rattle.std.proofs.lemmas.List.{take_more, drop_more, take-append-drop, map-append}
+use Rattle.std.proofs.lemmas.List.{take_more, take_all, drop_more, take-append-drop, map-append}
 use Rattle.command_streams.specs.declared.fault.CliFault.{CliFault}
 use Rattle.command_streams.specs.declared.fault.CliFault.TheVariants.{Read, Write, Memory}
 use Rattle.command_streams.specs.Readings.{reading}
@@ -98,6 +98,17 @@ lacks_more name items index one file lacks now first below read called same apar
     opened (subst (λ h. lacks h file) (sym same)
     (lacks_here (lacks first) (map name (take index items)) file [] apart
     (subst (λ (names : List (List ℕ)). lacks_first (lacks first) names) (sym (names_so_far name items index one file below read called)) is)))
+
+-- all are taken at the end
+pub taken_all : {X : Type 0} (name : X → List ℕ) (items : List X) (index : ℕ) (style : Style) (files : List ℕ → Option (List ℕ)) (together : Together) →
+    length items ≤ index → AreTaken style files (map name (take index items)) together → AreTaken style files (map name items) together
+taken_all name items index style files together end taken =
+    subst (λ l. AreTaken style files (map name l) together) (take_all index items end) taken
+
+-- and the first could be opened
+pub lacks_none : {X : Type 0} (name : X → List ℕ) (items : List X) (index : ℕ) (lacks : List ℕ → Type 0) → length items ≤ index →
+    (lacks_first lacks (map name (take index items)) → ⊥) → lacks_first lacks (map name items) → ⊥
+lacks_none name items index lacks end apart is = apart (subst (λ l. lacks_first lacks (map name l)) (sym (take_all index items end)) is)
 
 -- nothing is told, and so nothing is written
 pub untold : {T : Type 0} (style : Style) (files : List ℕ → Option (List ℕ)) (names : List (List ℕ)) (wrote writes : Option (List ℕ)) (fault : CliFault) →

@@ -63,7 +63,6 @@ fn replay_trace<A: Allocator + Copy>(
     Ok((line, outcome_status(outcome, entries)))
 }
 
-#[tactic(auto, using(command_streams::proofs::Bytes::uncalled))]
 /// Reads a program and then a trace to their ends, has a gate judge the requests of the trace in their order, replays the gate's entries
 /// as a run of the program, and writes a line: `replayed N` where the N entries are a finished run, `unfinished` where they are a run
 /// that is not finished, and else `strange N`, by the first entry that is none of the program's. It answers the exit status: of a

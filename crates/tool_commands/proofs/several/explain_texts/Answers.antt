@@ -1,8 +1,7 @@
-use Rattle.std.proofs.Common.{rules, arith, ◌≡◌, ◌<◌, ◌∙◌, ℕ, [], Option, Err, length, get_or, ap, refl, sym, subst}
+use Rattle.std.proofs.Common.{◌≡◌, ◌∙◌, ℕ, [], Option, Err, inl, ap, refl, sym, subst}
 use Rattle.std.specs.Global.{Vec}
 use Rattle.std.specs.String.{string_bytes}
 use Rattle.std.proofs.lemmas.Result.{err_from_is_err_and}
-use Rattle.std.proofs.lemmas.Grind.{common_steps}
 use Rattle.command_streams.specs.Watched.{held}
 use Rattle.command_streams.specs.declared.fault.CliFault.{CliFault}
 use Rattle.command_streams.specs.declared.fault.CliFault.TheVariants.{Write}
@@ -10,7 +9,7 @@ use Rattle.command_streams.proofs.Failing.{step_failed}
 use Rattle.command_streams.specs.Readings.{reading}
 use Rattle.tool_commands.specs.Together.{Together, together_of, TakesReading}
 use Rattle.tool_commands.specs.Several.{style, manner_in, AreTaken, none}
-use Rattle.tool_commands.proofs.Taking.{taken_more, faulty_at, stops_at, lacks_at, lacks_more}
+use Rattle.tool_commands.proofs.Taking.{taken_more, taken_all, faulty_at, stops_at, lacks_at, lacks_more, lacks_none}
 use Rattle.tool_commands.proofs.several.explain_texts.Goals as goal
 
 pub loop-file-init : goal.loop-file-init
@@ -23,9 +22,9 @@ loop-file-init g c = (
 
 pub loop-file-preserved : goal.loop-file-preserved
 loop-file-preserved g c =
-    let below : c.loop-file.file-index < length c.args.files.now = first_of (search rules, grind (arith, common_steps)) in
-    let read : c.file-item.result ≡ get_or c.args.files.now c.loop-file.file-index c.file-item.result = first_of (search rules, grind (arith, common_steps)) in
-    let called : c.as_str.result.now ≡ string_bytes c.file-item.result = search rules in
+    let below = c.loop-file-test.true in
+    let read = c.file-item.is in
+    let called = c.as_str.ensures.value in
     let same = c.loop-file.invariant.2 in
     let took = c.in_ok-told.ensures.ok in (
       taken_more string_bytes c.args.files.now c.loop-file.file-index c.file-item.result c.as_str.result.now (style c.args.is_painted c.args.extent c.args.rendering)
@@ -42,9 +41,9 @@ loop-file-preserved g c =
 
 pub returns-in_err-told-clause-fault : goal.returns-in_err-told-clause-fault
 returns-in_err-told-clause-fault g c =
-    let below : c.loop-file.file-index < length c.args.files.now = first_of (search rules, grind (arith, common_steps)) in
-    let read : c.file-item.result ≡ get_or c.args.files.now c.loop-file.file-index c.file-item.result = first_of (search rules, grind (arith, common_steps)) in
-    let called : c.as_str.result.now ≡ string_bytes c.file-item.result = search rules in
+    let below = c.loop-file-test.true in
+    let read = c.file-item.is in
+    let called = c.as_str.ensures.value in
     let gone = err_from_is_err_and c.from_residual.result c.from_residual.ensures.1 in
     rw (gone.1, gone.2) (stops_at string_bytes c.args.files.now c.loop-file.file-index c.file-item.result c.as_str.result.now (style c.args.is_painted c.args.extent c.args.rendering)
     (g.H.Host.sources (held c.args.host.now)).file (g.H.Host.sources (held c.loop-file.host)).file c.in_err-told.ensures.fault.0
@@ -53,9 +52,9 @@ returns-in_err-told-clause-fault g c =
 
 pub returns-in_err-told-clause-lacking : goal.returns-in_err-told-clause-lacking
 returns-in_err-told-clause-lacking g c = λ lacking.
-    let below : c.loop-file.file-index < length c.args.files.now = first_of (search rules, grind (arith, common_steps)) in
-    let read : c.file-item.result ≡ get_or c.args.files.now c.loop-file.file-index c.file-item.result = first_of (search rules, grind (arith, common_steps)) in
-    let called : c.as_str.result.now ≡ string_bytes c.file-item.result = search rules in
+    let below = c.loop-file-test.true in
+    let read = c.file-item.is in
+    let called = c.as_str.ensures.value in
     let gone = err_from_is_err_and c.from_residual.result c.from_residual.ensures.1 in
     let e = c.in_err-told.ensures.lacking
     (lacks_at string_bytes c.args.files.now c.loop-file.file-index c.file-item.result c.as_str.result.now g.H.Host.lacks (held c.loop-file.host)
@@ -64,9 +63,9 @@ returns-in_err-told-clause-lacking g c = λ lacking.
 
 pub returns-in-Some-clause-ok : goal.returns-in-Some-clause-ok
 returns-in-Some-clause-ok g c =
-    let below : c.loop-file.file-index < length c.args.files.now = first_of (search rules, grind (arith, common_steps)) in
-    let read : c.file-item.result ≡ get_or c.args.files.now c.loop-file.file-index c.file-item.result = first_of (search rules, grind (arith, common_steps)) in
-    let called : c.as_str.result.now ≡ string_bytes c.file-item.result = search rules in
+    let below = c.loop-file-test.true in
+    let read = c.file-item.is in
+    let called = c.as_str.ensures.value in
     let took = c.in_ok-told.ensures.ok in
     faulty_at string_bytes c.args.files.now c.loop-file.file-index c.file-item.result c.as_str.result.now (style c.args.is_painted c.args.extent c.args.rendering)
     (g.H.Host.sources (held c.args.host.now)).file (g.H.Host.sources (held c.loop-file.host)).file took.0 (together_of c.loop-file.traces)
@@ -77,9 +76,9 @@ returns-in-Some-clause-ok g c =
 
 pub returns-in-Some-clause-lacking : goal.returns-in-Some-clause-lacking
 returns-in-Some-clause-lacking g c = λ lacking.
-    let below : c.loop-file.file-index < length c.args.files.now = first_of (search rules, grind (arith, common_steps)) in
-    let read : c.file-item.result ≡ get_or c.args.files.now c.loop-file.file-index c.file-item.result = first_of (search rules, grind (arith, common_steps)) in
-    let called : c.as_str.result.now ≡ string_bytes c.file-item.result = search rules in
+    let below = c.loop-file-test.true in
+    let read = c.file-item.is in
+    let called = c.as_str.ensures.value in
     let e = c.in_ok-told.ensures.lacking
     (lacks_at string_bytes c.args.files.now c.loop-file.file-index c.file-item.result c.as_str.result.now g.H.Host.lacks (held c.loop-file.host)
     (held c.args.host.now) below read called c.loop-file.invariant.2 c.loop-file.invariant.3 lacking) in
@@ -97,3 +96,33 @@ returns-in_err-told-clause-not_write g c =
 
 pub returns-in-Some-clause-read_failed : goal.returns-in-Some-clause-read_failed
 returns-in-Some-clause-read_failed g c = let stands = c.in_ok-told.ensures.stands in (λ failed. absurd (cc), λ failed. absurd (cc))
+
+pub returns-in_err-to_message-clause-lacking : goal.returns-in_err-to_message-clause-lacking
+returns-in_err-to_message-clause-lacking g c = λ lacking.
+    let end = c.loop-file-test.false in
+    absurd (lacks_none string_bytes c.args.files.now c.loop-file.file-index (g.H.Host.lacks (held c.args.host.now)) end c.loop-file.invariant.3 lacking)
+
+pub returns-clause-lacking : goal.returns-clause-lacking
+returns-clause-lacking g c = λ lacking.
+    let end = c.loop-file-test.false in
+    absurd (lacks_none string_bytes c.args.files.now c.loop-file.file-index (g.H.Host.lacks (held c.args.host.now)) end c.loop-file.invariant.3 lacking)
+
+pub returns-clause-ok : goal.returns-clause-ok
+returns-clause-ok g c =
+    let end = c.loop-file-test.false in
+    inl (record {
+      together = together_of c.loop-file.traces;
+      taken = taken_all string_bytes c.args.files.now c.loop-file.file-index (style c.args.is_painted c.args.extent c.args.rendering)
+          (g.H.Host.sources (held c.args.host.now)).file (together_of c.loop-file.traces) end c.loop-file.invariant.0;
+      told_is = c.in_ok-to_message.ensures;
+      status_is = c.status.ensures;
+    })
+
+pub returns-clause-read_failed : goal.returns-clause-read_failed
+returns-clause-read_failed g c = let stands = c.loop-file.invariant.1 in (λ failed. absurd (cc), λ failed. absurd (cc))
+
+pub returns-clause-not_write : goal.returns-clause-not_write
+returns-clause-not_write g c = λ write. cc
+
+pub returns-in-Some-clause-not_write : goal.returns-in-Some-clause-not_write
+returns-in-Some-clause-not_write g c = λ write. cc

@@ -1,4 +1,4 @@
-use Rattle.std.proofs.Common.{rules, ℕ, List, subst}
+use Rattle.std.proofs.Common.{ℕ, List, subst}
 use Rattle.std.proofs.lemmas.Result.{err_from_is_err_and}
 use Rattle.std.specs.Io.KnownBytes.{Appends}
 use Rattle.program_text.specs.Programs.{contents}
@@ -7,6 +7,9 @@ use Rattle.command_streams.specs.Readings.{reading}
 use Rattle.command_streams.specs.Streams.{StopsWriting}
 use Rattle.command_streams.proofs.Failing.{write_alone}
 use Rattle.tool_commands.proofs.TracedCauses.{trace_stops, trace_cut, trace_written}
+use Rattle.tool_commands.specs.Programs.{StopsProgram}
+use Rattle.tool_commands.specs.Runs.{IsRunFault}
+use Rattle.tool_commands.proofs.Devices.{read_stopped, telling_stopped, writing_stopped, all_written}
 use Rattle.tool_commands.proofs.ReadPrograms.{no_program_to_trace}
 use Rattle.tool_commands.proofs.traced_run.write_run_trace.Goals as goal
 
@@ -33,11 +36,25 @@ returns-in_err-write_text-clause-fault g c =
     (subst (λ (text : List ℕ). StopsWriting (g.W.Write.contents (held c.args.output.now)) (g.W.Write.contents (held c.write_text.new.output)) text c.in_err-write_text.field-0.0)
     c.as_slice.ensures.value c.in_err-write_text.ensures.fault))
 
+pub returns-in_err-program-clause-devices : goal.returns-in_err-program-clause-devices
+returns-in_err-program-clause-devices g c =
+    let gone = err_from_is_err_and c.from_residual.result c.from_residual.ensures.1 in
+    rw (gone.1, gone.2) (read_stopped c.in_err-program.field-0.0 _ _
+    (StopsProgram (reading (g.P.Read.remaining (held c.args.program.now)) (g.P.Read.remaining (held c.read_program.new.reader))))
+    c.in_err-program.ensures.failed c.in_err-program.ensures.fault (λ stops. stops) c.requires.writer)
+
+pub returns-in_err-trace-clause-devices : goal.returns-in_err-trace-clause-devices
+returns-in_err-trace-clause-devices g c =
+    let gone = err_from_is_err_and c.from_residual-in_err-trace.result c.from_residual-in_err-trace.ensures.1 in
+    rw (gone.1, gone.2) (telling_stopped c.in_err-trace.field-0.0 _ _ c.in_ok-program.program (IsRunFault (contents c.in_ok-program.program) c.args.limit) c.in_ok-program.ensures.failed
+    c.in_err-trace.ensures.fault (λ stops. stops) (λ stops. stops) c.requires.writer)
+
 pub returns-in_err-write_text-clause-devices : goal.returns-in_err-write_text-clause-devices
 returns-in_err-write_text-clause-devices g c =
-    let gone = err_from_is_err_and c.from_residual-in_err-write_text.result c.from_residual-in_err-write_text.ensures.1 in record {
-      delivered = search rules;
-      read_failed = search rules;
-      write_failed = search rules;
-      unwritten = rw (gone.1, gone.2) (λ other. absurd (other (write_alone _ _ _ c.in_err-write_text.field-0.0 c.in_err-write_text.ensures.fault)));
-    }
+    let gone = err_from_is_err_and c.from_residual-in_err-write_text.result c.from_residual-in_err-write_text.ensures.1 in
+    rw (gone.1, gone.2) (writing_stopped c.in_err-write_text.field-0.0 _ _ c.in_ok-program.program _ c.in_ok-program.ensures.failed
+    (write_alone _ _ _ _ c.in_err-write_text.ensures.fault) c.in_err-write_text.ensures.failed)
+
+pub returns-clause-devices : goal.returns-clause-devices
+returns-clause-devices g c =
+    all_written _ _ _ _ c.in_ok-program.program _ c.in_ok-program.ensures.failed c.in_ok-write_text.ensures.delivered c.in_ok-write_text.ensures.failed
