@@ -18,7 +18,7 @@ returns-in_err-program-clause-job g c =
 pub returns-in_err-program-clause-devices : goal.returns-in_err-program-clause-devices
 returns-in_err-program-clause-devices g c =
     let gone = err_from_is_err_and c.from_residual.result c.from_residual.ensures.1 in
-    rw (gone.1, gone.2) (not_opened c.in_err-program.field-0.0 _ _ c.in_err-program.ensures.fault (search rules) c.requires.writer)
+    rw (gone.1, gone.2) (not_opened c.in_err-program.field-0.0 c.open.new.self.failed c.args.output.now c.in_err-program.ensures.fault (search rules) c.requires.writer)
 
 pub returns-clause-devices : goal.returns-clause-devices
 returns-clause-devices g c =
