@@ -8,3 +8,4 @@ pub mod Wholes
 mod Faulted
 mod Gathered
 pub mod Rising
+mod Finished

@@ -3,3 +3,5 @@ pub mod Logs
 pub mod Strange
 pub mod Faults
 pub mod Laws
+pub mod Asking
+pub mod Finishing

@@ -1,5 +1,6 @@
 //! Why there is no whole run.
 
+use race_gate::GateFault;
 use std::alloc::AllocError;
 use thiserror::Error;
 
@@ -31,5 +32,22 @@ impl From<AllocError> for RunFault {
 
     fn from(_fault: AllocError) -> RunFault {
         RunFault::Memory
+    }
+}
+
+/// What a fault of the gate means for the run.
+impl From<GateFault> for RunFault {
+    ghost use Rattle.std.specs.Prelude.{◌≡◌};
+    ghost use Rattle.locked_replay.specs.Asking.{fault_of};
+
+    ghost from_gives = { λ cause fault. fault ≡ fault_of cause };
+
+    fn from(cause: GateFault) -> RunFault {
+        match cause {
+            GateFault::Stopped => RunFault::Stopped,
+            GateFault::Limit => RunFault::Limit,
+            GateFault::NotRunning | GateFault::BadName | GateFault::Unsynced => RunFault::Strange,
+            GateFault::Memory => RunFault::Memory,
+        }
     }
 }

@@ -9,6 +9,7 @@
 #![tactic(auto)]
 
 mod fault;
+mod finishing;
 pub mod laws;
 mod locked;
 mod logs;
@@ -20,6 +21,7 @@ mod whole;
 mod worker;
 
 pub use fault::RunFault;
+pub use finishing::finished_logs;
 pub use locked::{Ask, LockedGate};
 pub use logs::check_logs;
 pub use opening::open_gate;

@@ -1,8 +1,16 @@
 //! Where a worker counts what it asked.
 
-ghost use Rattle.std.specs.Prelude.{◌≡◌, ◌+◌, ◌<◌};
+ghost use Rattle.std.specs.Prelude.{◌≡◌, ◌↔◌, ◌+◌, ◌<◌, IsTrue, length};
+ghost use Rattle.locked_replay.specs.Asking.{KeepsReceipt};
 
+use crate::fault::RunFault;
+use crate::locked::Ask;
+use packed_history::Receipts;
+use race_gate::Answer;
+use std::alloc::Allocator;
+use std::sync::Wait;
 use std::sync::ledger::{Ledger, Share};
+use text_words::{Act, Request};
 
 /// A share of what was asked of one gate. It has some of the parts into which the right to ask is cut.
 #[derive(Drop)]
@@ -13,6 +21,19 @@ pub struct Seat<L: Ledger> {
     ghost amount: { share.amount ≡ asked },
     ghost parted: { share.parts ≡ parts },
     ghost has_part: { 0 < parts },
+}
+
+fn is_same_act(one: Act, other: Act) -> bool
+    ensures { IsTrue result ↔ one ≡ other }
+{
+    one == other
+}
+
+/// Whether the two are one request. Field by field, since the search for one proof of all of them passes its limit.
+fn is_same_request(one: Request, other: Request) -> bool
+    ensures { IsTrue result ↔ one ≡ other }
+{
+    one.strand == other.strand && one.line == other.line && is_same_act(one.act, other.act)
 }
 
 impl<L: Ledger> Seat<L> {
@@ -47,6 +68,29 @@ impl<L: Ledger> Seat<L> {
             asked: 0,
             parts: 1,
             share,
+        }
+    }
+
+    /// Asks on this seat, and keeps the receipt, which has to be of that request: else it is strange. What the gate answers to a request
+    /// that it refuses to enter is told as the run's fault, and nothing is kept then.
+    #[inline(always)]
+    pub fn ask<A: Allocator, G: Ask<L>, R: Wait>(
+        &mut self,
+        rt: &R,
+        gate: &G,
+        receipts: &mut Receipts<A>,
+        request: Request,
+    ) -> Result<Answer, RunFault>
+        ensures kept { KeepsReceipt request receipts.old.items receipts.new.items result }
+        ensures counted { self.new.asked + length receipts.old.items ≡ self.old.asked + length receipts.new.items }
+    {
+        receipts.reserve()?;
+        let receipt = gate.ask(rt, self, request)?;
+        receipts.push_reserved(receipt);
+        if is_same_request(receipt.request, request) {
+            Ok(receipt.answer)
+        } else {
+            Err(RunFault::Strange)
         }
     }
 }

@@ -1,4 +1,3 @@
-mod Finished
 pub mod Asking
 pub mod Balances
 pub mod Endings

@@ -15,7 +15,7 @@ use Rattle.steal_workers.specs.declared.worker_deques.WorkerDeques.{WorkerDeques
 use Rattle.steal_workers.specs.declared.worker.Worker.{Worker}
 use Rattle.steal_workers.specs.Beginning.{own_hands, HaveRoot, IsReady}
 use Rattle.steal_workers.specs.Ending.{saw_end}
-use Rattle.steal_workers.specs.Finishing.{finishes, some_finished}
+use Rattle.locked_replay.specs.Finishing.{finishes, some_finished}
 use Rattle.steal_workers.specs.PassLogs.{pass_log, pushing}
 use Rattle.steal_workers.specs.StealHandles.{own_deque, own_view, deques_of, AllLeadTo}
 use Rattle.steal_workers.specs.Workers.{station_of, stations_of, owns_of, others_of}

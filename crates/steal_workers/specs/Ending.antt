@@ -8,7 +8,7 @@ use Rattle.steal_workers.specs.declared.worker.Worker.{Worker}
 use Rattle.steal_workers.specs.Faults.{refused_thread, IsFirstOf}
 use Rattle.steal_workers.specs.Workers.{stations_of, TornAtJoin}
 use Rattle.steal_workers.specs.Beginning.{own_hands, HaveRoot, IsReady}
-use Rattle.steal_workers.specs.Finishing.{finishes}
+use Rattle.locked_replay.specs.Finishing.{finishes}
 
 module _ {L A : Type 0} where
   abbrev pub faults_of : List (Worker L A) → List (Option RunFault)

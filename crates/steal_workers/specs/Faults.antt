@@ -1,22 +1,11 @@
 -- Which fault a run answers.
 use Rattle.std.specs.Prelude.{◌≡◌, ◌≤◌, ◌⊎◌, ℕ, Bool, true, false, List, Option, Some, None, All, Contains}
-use Rattle.model_histories.specs.declared.fault.GateFault.{GateFault}
-use Rattle.model_histories.specs.declared.fault.GateFault.TheVariants as gate
 use Rattle.frame_steps.specs.declared.frame.FrameFault.{FrameFault}
 use Rattle.frame_steps.specs.declared.frame.FrameFault.TheVariants as frame
 use Rattle.locked_replay.specs.declared.fault.RunFault.{RunFault}
 use Rattle.locked_replay.specs.declared.fault.RunFault.TheVariants.{Limit, Stopped, Torn, Strange, Memory}
 use Rattle.steal_workers.specs.declared.lot.LotFault.{LotFault}
 use Rattle.steal_workers.specs.declared.lot.LotFault.TheVariants as lot
-
--- what a fault of the gate means for the run
-abbrev pub fault_of : GateFault → RunFault
-fault_of gate.Stopped = Stopped
-fault_of gate.Limit = Limit
-fault_of gate.NotRunning = Strange
-fault_of gate.BadName = Strange
-fault_of gate.Unsynced = Strange
-fault_of gate.Memory = Memory
 
 -- what a refused answer means for the run
 abbrev pub refusal_of : FrameFault → RunFault

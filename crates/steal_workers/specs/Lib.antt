@@ -1,7 +1,6 @@
 pub mod Beginning
 pub mod Ending
 pub mod Faults
-pub mod Finishing
 pub mod Goings
 pub mod PassLogs
 pub mod Places

@@ -1,18 +1,15 @@
 -- What a worker keeps, and what it does at a request.
-use Rattle.std.specs.Prelude.{◌≡◌, ◌≢◌, ◌⊎◌, ◌≤◌, ℕ, List, [], ◌∷◌, ◌++◌, map, Some, Result, Ok, Err, vec_len, vec_capacity}
+use Rattle.std.specs.Prelude.{◌≡◌, ◌⊎◌, ◌≤◌, ℕ, List, [], ◌∷◌, ◌++◌, map, Some, vec_len, vec_capacity}
 use Rattle.model_accesses.specs.declared.request.Request.{Request}
-use Rattle.model_histories.specs.declared.fault.GateFault.{GateFault}
 use Rattle.model_histories.specs.declared.answer.Answer.{Answer}
 use Rattle.model_histories.specs.declared.answer.Answer.TheVariants.{Split, Waits, EndedJoined}
 use Rattle.model_histories.specs.declared.reply.Receipt.{Receipt}
 use Rattle.model_programs.specs.Exchanges.{Exchange}
 use Rattle.frame_steps.specs.Frames.{IsAfter, CanFollow}
-use Rattle.locked_replay.specs.declared.fault.RunFault.{RunFault}
-use Rattle.locked_replay.specs.declared.fault.RunFault.TheVariants.{Torn, Strange}
+use Rattle.locked_replay.specs.declared.fault.RunFault.TheVariants.{Torn}
 use Rattle.steal_workers.specs.declared.task.Task.{Task}
 use Rattle.steal_workers.specs.declared.worker.Worker.{Worker}
 use Rattle.steal_workers.specs.declared.joining.Room.{Room}
-use Rattle.steal_workers.specs.Faults.{fault_of}
 use Rattle.steal_workers.specs.StealHandles.{Deque, own_deque, deques_of}
 
 -- the answers at which a task comes to a join, or the last child that ends there
@@ -57,15 +54,6 @@ module _ {L A : Type 0} where
   -- a join that was met twice shows in what the worker was told last
   abbrev pub TornAtJoin : Worker L A → Type 0
   TornAtJoin worker = worker.fault ≡ Some Torn → EndsAtJoin worker.receipts.items
-
--- At Ok a receipt of that request was kept, with the answer. At Err nothing was kept, and the gate's fault or want of memory is told; or
--- the receipt that was kept is of another request, which is strange.
-abbrev pub KeepsReceipt : Request → List Receipt → List Receipt → Result Answer RunFault → Type 0
-KeepsReceipt request before after (Ok answer) =
-    (number : ℕ) × (after ≡ before ++ record { number = number; request = request; answer = answer } ∷ [])
-KeepsReceipt request before after (Err fault) =
-    ((after ≡ before) × ((cause : GateFault) × (fault ≡ fault_of cause)))
-    ⊎ ((fault ≡ Strange) × ((receipt : Receipt) × (after ≡ before ++ receipt ∷ []) × (receipt.request ≢ request)))
 
 -- the only request that the function of a task can go on with
 abbrev pub IsWanted : {A : Type 0} → Task A → Request → Type 0

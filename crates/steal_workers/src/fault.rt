@@ -1,24 +1,11 @@
 //! Which fault a run answers.
 
 ghost use Rattle.std.specs.Prelude.{◌≡◌};
-ghost use Rattle.steal_workers.specs.Faults.{rank, fault_of, refusal_of, meeting_of, refused_thread, IsFirst};
+ghost use Rattle.steal_workers.specs.Faults.{rank, refusal_of, meeting_of, refused_thread, IsFirst};
 
 use crate::lot::LotFault;
 use frame_steps::FrameFault;
 use locked_replay::RunFault;
-use race_gate::GateFault;
-
-/// What a fault of the gate means for the run.
-pub(crate) fn fault_of(fault: GateFault) -> RunFault
-    ensures { result ≡ fault_of fault }
-{
-    match fault {
-        GateFault::Stopped => RunFault::Stopped,
-        GateFault::Limit => RunFault::Limit,
-        GateFault::NotRunning | GateFault::BadName | GateFault::Unsynced => RunFault::Strange,
-        GateFault::Memory => RunFault::Memory,
-    }
-}
 
 /// What a refused answer means for the run.
 pub(crate) fn frame_fault_of(fault: FrameFault) -> RunFault

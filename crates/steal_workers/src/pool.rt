@@ -1,7 +1,7 @@
 //! Runs of a program by many workers.
 
 ghost use Rattle.std.specs.Prelude.{◌≡◌, ◌+◌, ◌<◌, ◌≤◌, [], ◌∷◌, true, false, length, map, All, IfOk, OnOk, vec_len, vec_capacity};
-ghost use Rattle.std.specs.List.{list_any, sum_by};
+ghost use Rattle.std.specs.List.{sum_by};
 ghost use Rattle.locked_replay.specs.Logs.{all_receipts, all_asked};
 ghost use Rattle.steal_workers.specs.Faults.{IsFirstOf};
 ghost use Rattle.steal_workers.specs.PassLogs.{pass_log};
@@ -9,17 +9,15 @@ ghost use Rattle.steal_workers.specs.StealHandles.{own_deque, own_view, deques_o
 ghost use Rattle.steal_workers.specs.Workers.{station_of, stations_of, owns_of, others_of, HasRoom, TornAtJoin};
 ghost use Rattle.steal_workers.specs.Beginning.{own_hands, HaveRoot, IsReady};
 ghost use Rattle.steal_workers.specs.Ending.{AreSomeOf, IsEnded, IsAnswered, IsTold, faults_of};
-ghost use Rattle.steal_workers.specs.Finishing.{finishes, some_finished};
+ghost use Rattle.locked_replay.specs.Finishing.{some_finished};
 
 use crate::fault::{first_of, thread_fault_of};
 use crate::joining::Room;
 use crate::lot::Lot;
 use crate::worker::Worker;
 use crate::worker_deques::{WorkerDeques, make_worker_deques};
-use locked_replay::{Ask, RunFault, Seat, WorkerLog};
-use packed_history::Receipts;
+use locked_replay::{Ask, RunFault, Seat, WorkerLog, finished_logs};
 use program_text::Program;
-use race_gate::{Answer, Receipt};
 use std::alloc::{AllocError, Allocator, Global};
 use std::snapshot::Snapshot;
 use std::sync::Wait;
@@ -86,56 +84,6 @@ fn hire_each<'p, L: Ledger, A: Allocator + Copy>(
         hired.push_reserved(Worker::new(alloc, seat.split(), it));
     }
     hired
-}
-
-fn is_finishing(receipt: Receipt) -> bool
-    ensures { result ≡ finishes receipt.answer }
-{
-    matches!(receipt.answer, Answer::Finished)
-}
-
-fn has_finished<A: Allocator>(receipts: &Receipts<A>) -> bool
-    ensures { result ≡ list_any (λ receipt. finishes receipt.answer) receipts.now.items }
-{
-    for at in 0..receipts.len() {
-        if is_finishing(receipts.get(at)) {
-            return true;
-        }
-    }
-    false
-}
-
-/// Whether the last receipt is that of the run's end.
-fn is_finished_last<A: Allocator>(receipts: &Receipts<A>) -> bool
-    ensures { result ≡ true → list_any (λ receipt. finishes receipt.answer) receipts.now.items ≡ true }
-{
-    let count = receipts.len();
-    if count == 0 {
-        return false;
-    }
-    is_finishing(receipts.get(count - 1))
-}
-
-/// Whether some log ends with the receipt of the run's end, as that of the worker does that saw it.
-fn is_some_log_finished_last<L: Ledger, A: Allocator>(logs: &[WorkerLog<L, A>]) -> bool
-    ensures { result ≡ true → some_finished logs.now ≡ true }
-{
-    for log in logs {
-        if is_finished_last(&log.receipts) {
-            return true;
-        }
-    }
-    false
-}
-
-/// Whether some receipt is that of the run's end. The ends of the logs are looked at first.
-fn is_some_log_finished<L: Ledger, A: Allocator>(logs: &[WorkerLog<L, A>]) -> bool
-    ensures { result ≡ some_finished logs.now }
-{
-    if is_some_log_finished_last(logs) {
-        return true;
-    }
-    logs.iter().any(|log| has_finished(&log.receipts))
 }
 
 /// Starts the workers, and says whether all of them could be started. Where one could not, the run is over.
@@ -259,12 +207,7 @@ fn collect_logs<'p, L: Ledger, A: Allocator + Copy>(
     if let Some(fault) = first_fault(thread_fault_of(all), workers.as_slice()) {
         return Err(fault);
     }
-    let logs = room.settle(workers);
-    if is_some_log_finished(logs.as_slice()) {
-        Ok(logs)
-    } else {
-        Err(RunFault::Strange)
-    }
+    finished_logs(room.settle(workers))
 }
 
 /// What a run by these workers answers. It is apart from [`run`], since no closure gets a proof that captures a reference to a local of its

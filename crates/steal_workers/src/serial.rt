@@ -2,7 +2,6 @@
 
 ghost use Rattle.std.specs.Prelude.{◌≡◌, ◌<◌, IfOk, IfSome, length};
 
-use crate::fault::fault_of;
 use crate::task::{Spare, Task};
 use function_steps::Target;
 use locked_replay::RunFault;
@@ -25,7 +24,7 @@ fn ask_next<A: Allocator + Clone>(
     ensures program { task.new.program ≡ task.old.program }
 {
     let next = task.next_request()?;
-    let receipt = gate.judge(next.request).map_err(fault_of)?;
+    let receipt = gate.judge(next.request)?;
     task.answer(&receipt.answer)?;
     Ok((receipt.answer, next.target))
 }

@@ -1,12 +1,12 @@
 //! A worker.
 
-ghost use Rattle.std.specs.Prelude.{◌≡◌, ◌↔◌, ◌+◌, ◌<◌, [], ◌∷◌, ◌++◌, Err, IfErr, IfOk};
-ghost use Rattle.std.specs.Prelude.{IfSome, IsTrue, MatchOption, OnOk, length, vec_len};
+ghost use Rattle.std.specs.Prelude.{◌≡◌, ◌+◌, ◌<◌, [], ◌∷◌, ◌++◌, Err, IfErr, IfOk};
+ghost use Rattle.std.specs.Prelude.{IfSome, MatchOption, OnOk, length, vec_len};
 ghost use Rattle.locked_replay.specs.declared.fault.RunFault.{RunFault};
 ghost use Rattle.steal_workers.specs.PassLogs.{pushing};
 ghost use Rattle.steal_workers.specs.Goings.{GoesOn, HandsOut, IsAtJoin};
 
-use crate::fault::{fault_of, lot_fault_of};
+use crate::fault::lot_fault_of;
 use crate::lot::{DOZE, Lot};
 use crate::pass_log::Owner;
 use crate::steal_handle::StealHandle;
@@ -21,7 +21,7 @@ use race_gate::Answer;
 use std::alloc::{AllocError, Allocator, Global};
 use std::sync::Wait;
 use std::sync::ledger::Ledger;
-use text_words::{Act, Request};
+use text_words::Request;
 
 /// Where a worker goes on after an answer.
 #[derive(Clone, Copy)]
@@ -61,19 +61,6 @@ fn hand_out<'p, A: Allocator, R: Wait>(
     }
 }
 
-fn is_same_act(one: Act, other: Act) -> bool
-    ensures { IsTrue result ↔ one ≡ other }
-{
-    one == other
-}
-
-/// Whether the two are one request. Field by field, since the search for one proof of all of them passes its limit.
-fn is_same_request(one: Request, other: Request) -> bool
-    ensures { IsTrue result ↔ one ≡ other }
-{
-    one.strand == other.strand && one.line == other.line && is_same_act(one.act, other.act)
-}
-
 /// A worker: what was asked on its seat before it began, what it was told since, its ends of the deques, and frames to be used again.
 pub struct Worker<'p, L: Ledger, A: Allocator = Global> {
     pub(crate) before: u64,
@@ -100,8 +87,9 @@ impl<'p, L: Ledger, A: Allocator> Drop for Worker<'p, L, A> {
 }
 
 impl<'p, L: Ledger, A: Allocator + Copy> Worker<'p, L, A> {
+    ghost use Rattle.locked_replay.specs.Asking.{KeepsReceipt};
     ghost use Rattle.steal_workers.specs.StealHandles.{own_view};
-    ghost use Rattle.steal_workers.specs.Workers.{station_of, AsksFor, KeepsReceipt, MeetsJoin, EndsAtJoin, TornAtJoin, child_of};
+    ghost use Rattle.steal_workers.specs.Workers.{station_of, AsksFor, MeetsJoin, EndsAtJoin, TornAtJoin, child_of};
 
     /// A worker on this seat, with these ends, which has done nothing yet.
     pub fn new(alloc: A, seat: Seat<L>, ends: WorkerDeques<'p, A>) -> Worker<'p, L, A>
@@ -139,14 +127,7 @@ impl<'p, L: Ledger, A: Allocator + Copy> Worker<'p, L, A> {
         ensures kept { KeepsReceipt request self.old.receipts.items self.new.receipts.items result }
     {
         let Worker { seat, receipts, .. } = self;
-        receipts.reserve()?;
-        let receipt = gate.ask(rt, seat, request).map_err(fault_of)?;
-        receipts.push_reserved(receipt);
-        if is_same_request(receipt.request, request) {
-            Ok(receipt.answer)
-        } else {
-            Err(RunFault::Strange)
-        }
+        seat.ask(rt, gate, receipts, request)
     }
 
     /// Asks what a task asks next, and goes on with it in place as far as the answer says so. Whoever is told to hand it out does that.

@@ -2,7 +2,7 @@ use Rattle.std.proofs.Common.{◌≡◌, ◌+◌, true, Result, Ok, Err, length}
 use Rattle.std.specs.Prelude.{IfOk, vec_len}
 use Rattle.std.specs.List.{sum_by}
 use Rattle.locked_replay.specs.Logs.{all_receipts, all_asked}
-use Rattle.steal_workers.specs.Finishing.{some_finished}
+use Rattle.locked_replay.specs.Finishing.{some_finished}
 use Rattle.steal_workers.proofs.pool.run_in_scope.Goals as goal
 
 weaker : {T E : Type 0} (P Q : T → Type 0) (result : Result T E) → ((value : T) → P value → Q value) → IfOk result P → IfOk result Q

@@ -5,8 +5,8 @@ use Rattle.model_histories.specs.declared.fault.GateFault.{GateFault}
 use Rattle.model_histories.specs.declared.fault.GateFault.TheVariants as gate
 use Rattle.locked_replay.specs.declared.fault.RunFault.{RunFault}
 use Rattle.locked_replay.specs.declared.fault.RunFault.TheVariants.{Torn, Strange}
-use Rattle.steal_workers.specs.Faults.{fault_of}
-use Rattle.steal_workers.specs.Workers.{AsksFor, KeepsReceipt}
+use Rattle.locked_replay.specs.Asking.{fault_of, KeepsReceipt}
+use Rattle.steal_workers.specs.Workers.{AsksFor}
 use Rattle.steal_workers.proofs.Asking.{err_is, on_ok, ends_at_join}
 use Rattle.steal_workers.proofs.worker.Worker.step.Goals as goal
 

@@ -2,8 +2,8 @@ use Rattle.std.proofs.Common.{sym, ◌∙◌}
 use Rattle.std.proofs.lemmas.Option.{slice_get_within}
 use Rattle.packed_history.specs.Lists.{Listed}
 use Rattle.model_histories.specs.declared.reply.Receipt.{Receipt}
-use Rattle.steal_workers.proofs.Finished.{some_here}
-use Rattle.steal_workers.proofs.pool.is_finished_last.Goals as goal
+use Rattle.locked_replay.proofs.Finished.{some_here}
+use Rattle.locked_replay.proofs.finishing.is_finished_last.Goals as goal
 
 pub returns : goal.returns
 returns g c ends =

@@ -7,7 +7,7 @@ use Rattle.std.proofs.lemmas.Option.{get_or_from_slice_get}
 use Rattle.std.proofs.lemmas.List.Folds.{list_any_more, list_any_at}
 use Rattle.model_histories.specs.declared.reply.Receipt.{Receipt}
 use Rattle.locked_replay.specs.declared.worker.WorkerLog.{WorkerLog}
-use Rattle.steal_workers.specs.Finishing.{finishes, some_finished}
+use Rattle.locked_replay.specs.Finishing.{finishes, some_finished}
 
 abbrev ends_run : Receipt → Bool
 ends_run receipt = finishes receipt.answer

@@ -1,8 +1,8 @@
 use Rattle.std.proofs.Common.{rules, sym, ◌∙◌}
 use Rattle.packed_history.specs.Lists.{Listed}
 use Rattle.model_histories.specs.declared.reply.Receipt.{Receipt}
-use Rattle.steal_workers.proofs.Finished.{none_more, some_here}
-use Rattle.steal_workers.proofs.pool.has_finished.Goals as goal
+use Rattle.locked_replay.proofs.Finished.{none_more, some_here}
+use Rattle.locked_replay.proofs.finishing.has_finished.Goals as goal
 
 pub loop-at-preserved : goal.loop-at-preserved
 loop-at-preserved g c =

@@ -1,6 +1,6 @@
 use Rattle.std.proofs.Common.{rules}
-use Rattle.steal_workers.proofs.Finished.{some_log}
-use Rattle.steal_workers.proofs.pool.is_some_log_finished_last.Goals as goal
+use Rattle.locked_replay.proofs.Finished.{some_log}
+use Rattle.locked_replay.proofs.finishing.is_some_log_finished_last.Goals as goal
 
 pub returns-then-is_finished_last : goal.returns-then-is_finished_last
 returns-then-is_finished_last g c ends =
