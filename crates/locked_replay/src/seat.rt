@@ -1,4 +1,4 @@
-//! Where a worker counts what it asked.
+//! On what a worker asks, which counts that.
 
 ghost use Rattle.std.specs.Prelude.{◌≡◌, ◌↔◌, ◌+◌, ◌<◌, IsTrue, length};
 ghost use Rattle.locked_replay.specs.Asking.{KeepsReceipt};
@@ -71,8 +71,8 @@ impl<L: Ledger> Seat<L> {
         }
     }
 
-    /// Asks on this seat, and keeps the receipt, which has to be of that request: else it is strange. What the gate answers to a request
-    /// that it refuses to enter is told as the run's fault, and nothing is kept then.
+    /// Asks the gate, and keeps the receipt. `Strange` where the receipt is of another request; it is kept then. A fault of the gate is told
+    /// as the run's, and `Memory` where there is no room for a receipt; nothing is kept then.
     #[inline(always)]
     pub fn ask<A: Allocator, G: Ask<L>, R: Wait>(
         &mut self,
