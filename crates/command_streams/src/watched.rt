@@ -13,7 +13,7 @@ use std::io::{Read, Write};
 /// A reader or a writer of std, whether it has failed, and whether what was written is delivered. A host may be watched too: it has
 /// failed where it could not open a file, or where one of its readers that it was shown has failed, and what else is noted of it stays as
 /// it was.
-#[derive(Debug, Drop)]
+#[derive(Drop)]
 pub struct Watched<T> {
     inner: T,
     failed: bool,

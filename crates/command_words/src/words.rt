@@ -43,7 +43,7 @@ pub const OVER_PROGRAM: &str =
     "the trace would be written over the program: name another file with '--trace <OUT>'";
 
 /// When words are painted.
-#[derive(Clone, Copy, Debug, PartialEq, Eq)]
+#[derive(Clone, Copy, Debug)]
 pub enum Color {
     /// Where a terminal shows them.
     Auto,
@@ -54,7 +54,7 @@ pub enum Color {
 }
 
 /// The form of an explanation.
-#[derive(Clone, Copy, Debug, PartialEq, Eq)]
+#[derive(Clone, Copy, Debug)]
 pub enum Format {
     /// Text, for a person.
     Text,
@@ -65,7 +65,7 @@ pub enum Format {
 }
 
 /// The language of a drawing.
-#[derive(Clone, Copy, Debug, PartialEq, Eq)]
+#[derive(Clone, Copy, Debug)]
 pub enum Language {
     /// That of Graphviz.
     Dot,

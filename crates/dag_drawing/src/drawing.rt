@@ -16,7 +16,7 @@ use text_words::{Request, asked_by};
 pub const MOST_STRANDS: usize = 10_000;
 
 /// What an edge of the dag leads to.
-#[derive(Clone, Copy, Debug, PartialEq, Eq)]
+#[derive(Clone, Copy)]
 pub enum EdgeKind {
     /// From a spawner to the child.
     Child,
@@ -27,7 +27,7 @@ pub enum EdgeKind {
 }
 
 /// An edge of the dag.
-#[derive(Clone, Copy, Debug, PartialEq, Eq)]
+#[derive(Clone, Copy)]
 pub struct Edge {
     /// What it leads to.
     pub kind: EdgeKind,
@@ -38,7 +38,7 @@ pub struct Edge {
 }
 
 /// An access of a cell or a reducer.
-#[derive(Clone, Copy, Debug, PartialEq, Eq)]
+#[derive(Clone, Copy)]
 pub struct Access {
     /// The number of its entry, from 1 on.
     pub entry: usize,
@@ -49,7 +49,7 @@ pub struct Access {
 }
 
 /// A refused access and the earlier one that it races with.
-#[derive(Clone, Copy, Debug, PartialEq, Eq)]
+#[derive(Clone, Copy)]
 pub struct Race {
     /// The number of its entry, from 1 on.
     pub entry: usize,

@@ -12,7 +12,7 @@ use crate::svg::svg_text;
 use std::alloc::{AllocError, Allocator};
 
 /// The language of a drawing's text.
-#[derive(Clone, Copy, Debug, PartialEq, Eq)]
+#[derive(Clone, Copy)]
 pub enum Form {
     /// Graphviz's language.
     Dot,

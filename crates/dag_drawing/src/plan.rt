@@ -186,7 +186,7 @@ fn longest<A: Allocator>(most: usize, lines: &[String<A>]) -> usize
 }
 
 /// The sizes of what is written in boxes.
-#[derive(Clone, Copy, Debug, PartialEq, Eq)]
+#[derive(Clone, Copy)]
 struct Sizes {
     /// The characters of the longest line.
     length: usize,

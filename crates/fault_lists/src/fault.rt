@@ -10,7 +10,7 @@ use text_words::{Cause, TextFault};
 use trace_text::Trace;
 
 /// A faulty line of a text, and the lowest cause in it.
-#[derive(Clone, Copy, Debug, PartialEq, Eq)]
+#[derive(Clone, Copy)]
 pub struct Fault {
     /// The number of the line, from 1 on.
     pub line: u32,

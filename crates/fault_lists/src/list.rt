@@ -197,7 +197,7 @@ fn list_from<'a>(
 }
 
 /// The faults that are told behind the first one of a text.
-#[derive(Debug, Drop)]
+#[derive(Drop)]
 pub struct Others {
     pub faults: Vec<Fault>,
     /// Whether there are more.

@@ -6,7 +6,7 @@ ghost use Rattle.fault_lists.specs.LineNames.{is_declaring, is_beginning, is_ass
 ghost use Rattle.fault_lists.specs.LineNames.{opening_of, opening_of_part, opening_of_request};
 
 /// What a line is that begins with a keyword, or with what is none.
-#[derive(Clone, Copy, Debug, PartialEq, Eq)]
+#[derive(Clone, Copy)]
 pub enum Opening {
     /// `mem`, `reducer`.
     Declares,

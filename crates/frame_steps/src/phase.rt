@@ -1,7 +1,7 @@
 //! How far a frame is with its request.
 
 /// Whether a frame is between requests, has asked, or has ended.
-#[derive(Clone, Copy, Debug, PartialEq, Eq)]
+#[derive(Clone, Copy)]
 pub enum Phase {
     /// Between requests.
     Running,

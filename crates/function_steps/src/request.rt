@@ -9,7 +9,7 @@ use program_text::{REGISTERS, Statement};
 use text_words::Act;
 
 /// What a function asks for.
-#[derive(Clone, Copy, Debug, PartialEq, Eq)]
+#[derive(Clone, Copy)]
 pub struct Want {
     /// The act.
     pub act: Act,

@@ -8,7 +8,7 @@ ghost use Rattle.judge_command.specs.StatusFlags.{HasMet};
 use race_gate::{Answer, GateFault, Reply};
 
 /// What the replies so far have among them, as far as the exit status tells it.
-#[derive(Clone, Copy, Debug)]
+#[derive(Clone, Copy)]
 pub struct StatusFlags {
     memory: bool,
     limit: bool,

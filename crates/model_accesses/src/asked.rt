@@ -3,7 +3,7 @@
 use crate::kind::Kind;
 
 /// What an act that is an access asks of a cell or a reducer.
-#[derive(Clone, Copy, Debug, PartialEq, Eq)]
+#[derive(Clone, Copy)]
 pub struct Asked {
     /// What is done there.
     pub kind: Kind,

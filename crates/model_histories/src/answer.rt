@@ -33,7 +33,7 @@ pub enum Answer {
 }
 
 /// A request and its answer, as the history keeps them.
-#[derive(Clone, Copy, Debug, PartialEq, Eq)]
+#[derive(Clone, Copy, PartialEq, Eq)]
 pub struct Entry {
     /// What was asked for.
     pub request: Request,

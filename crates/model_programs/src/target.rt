@@ -1,7 +1,7 @@
 //! The functions that spawns name.
 
 /// A function that is spawned or called.
-#[derive(Clone, Copy, Debug, PartialEq, Eq)]
+#[derive(Clone, Copy)]
 pub struct Target {
     /// Its number.
     pub function: u32,

@@ -8,7 +8,7 @@ use std::alloc::Allocator;
 
 /// Where an item stands: its group, its place in the group, and the item that follows it among all, which is written by itself where
 /// another is tied in and so stands first.
-#[derive(Debug, Clone, Copy)]
+#[derive(Clone, Copy)]
 pub struct Place {
     pub next: u32,
     pub local: u32,

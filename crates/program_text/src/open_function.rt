@@ -16,7 +16,7 @@ use std::marker::Model;
 use text_words::Name;
 
 /// A part of an `if` that has not ended.
-#[derive(Clone, Copy, Debug)]
+#[derive(Clone, Copy)]
 pub struct Part {
     /// The place of the `if` or `else` before it.
     pub place: u32,

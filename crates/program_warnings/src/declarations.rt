@@ -10,7 +10,7 @@ use std::collections::BTreeMap;
 use text_words::{Mem, Reducer};
 
 /// What a declaration declares.
-#[derive(Clone, Copy, Debug, PartialEq, Eq)]
+#[derive(Clone, Copy)]
 pub enum Sort {
     /// A memory.
     Memory,
@@ -19,7 +19,7 @@ pub enum Sort {
 }
 
 /// A declaration.
-#[derive(Clone, Copy, Debug, PartialEq, Eq)]
+#[derive(Clone, Copy)]
 pub struct Declared {
     /// What it declares.
     pub sort: Sort,

@@ -18,7 +18,7 @@ use std::collections::BTreeMap;
 use text_words::Name;
 
 /// What a text allows, and is rarely meant.
-#[derive(Clone, Copy, Debug, PartialEq, Eq)]
+#[derive(Clone, Copy)]
 pub enum Warning {
     /// A register bears a name that is declared.
     Register {

@@ -9,7 +9,7 @@ use race_pairs::PAIRS;
 const SHOWN: usize = 3;
 
 /// How much is told of the races of a run.
-#[derive(Clone, Copy, Debug, PartialEq, Eq)]
+#[derive(Clone, Copy)]
 pub enum Extent {
     /// The first twenty pairs are kept, and of those that part at one spawn three are shown.
     First,

@@ -21,7 +21,7 @@ use text_words::{Request, TraceLine};
 use trace_text::Trace;
 
 /// Why a request is illegal.
-#[derive(Clone, Copy, Debug, PartialEq, Eq)]
+#[derive(Clone, Copy)]
 pub enum Illegality {
     /// Its strand ended at the request with this number, from 1 on.
     Ended(usize),

@@ -17,14 +17,14 @@ use crate::refusal::{Reason, Side};
 use std::alloc::{AllocError, Global};
 
 /// How a spawn or a call came to a function.
-#[derive(Clone, Copy, Debug, PartialEq, Eq)]
+#[derive(Clone, Copy, PartialEq, Eq)]
 pub enum Way {
     Spawned,
     Called,
 }
 
 /// A spawn or a call that encloses an access.
-#[derive(Clone, Copy, Debug, PartialEq, Eq)]
+#[derive(Clone, Copy, PartialEq, Eq)]
 pub struct Link {
     /// The number of its entry, from 1 on.
     pub entry: usize,

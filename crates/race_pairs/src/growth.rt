@@ -18,7 +18,7 @@ use std::alloc::{AllocError, Allocator};
 use text_words::Act;
 
 /// What an entry adds to a lineage.
-#[derive(Clone, Copy, PartialEq, Eq)]
+#[derive(Clone, Copy)]
 pub enum Step {
     /// A spawn that began these.
     Spawns(Spawned),

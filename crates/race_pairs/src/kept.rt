@@ -3,7 +3,7 @@
 use model_strands::Spawned;
 
 /// A spawn or a call of a history.
-#[derive(Clone, Copy, Debug, PartialEq, Eq)]
+#[derive(Clone, Copy)]
 pub struct Opener {
     /// The number of its entry, from 1 on.
     pub number: u32,
@@ -14,7 +14,7 @@ pub struct Opener {
 }
 
 /// The function that a spawn or a call opened. A place in a list is counted from 1 on, and 0 is none.
-#[derive(Clone, Copy, Debug, PartialEq, Eq)]
+#[derive(Clone, Copy)]
 pub struct Frame {
     /// What opened it.
     pub opener: Opener,
@@ -23,7 +23,7 @@ pub struct Frame {
 }
 
 /// A call or a return by which a strand came to stand in another frame.
-#[derive(Clone, Copy, Debug, PartialEq, Eq)]
+#[derive(Clone, Copy)]
 pub struct Turn {
     /// The number of its entry.
     pub number: u32,
@@ -34,7 +34,7 @@ pub struct Turn {
 }
 
 /// A strand, or a join that is kept back.
-#[derive(Clone, Copy, Debug, PartialEq, Eq)]
+#[derive(Clone, Copy)]
 pub struct Strand {
     /// The place of the frame whose spawn made it.
     pub maker: u32,
@@ -43,7 +43,7 @@ pub struct Strand {
 }
 
 /// How far down a strand stands, and where the way up from it is shortened.
-#[derive(Clone, Copy, Debug, PartialEq, Eq)]
+#[derive(Clone, Copy)]
 pub struct Jump {
     /// How many spawns lead to the strand.
     pub depth: u32,

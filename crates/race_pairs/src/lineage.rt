@@ -24,7 +24,7 @@ use std::alloc::{AllocError, Allocator};
 use std::marker::Model;
 
 /// The spawn where two strands part.
-#[derive(Clone, Copy, Debug, PartialEq, Eq)]
+#[derive(Clone, Copy)]
 pub struct Parting {
     /// The number of its entry, from 1 on.
     pub entry: usize,
@@ -40,7 +40,7 @@ pub struct Parting {
 
 /// A spawn that is outstanding at one of two strands and not at the other: one of the two strands that it began, its child or its
 /// next, can run while the one runs, and cannot while the other does.
-#[derive(Clone, Copy, Debug, PartialEq, Eq)]
+#[derive(Clone, Copy)]
 pub struct OpenSpawn {
     /// The number of its entry, from 1 on.
     pub entry: usize,
@@ -58,7 +58,6 @@ pub struct OpenSpawn {
 }
 
 /// The spawns and calls of a history, and which of them lead to each strand. It grows entry by entry, and keeps nothing of accesses.
-#[derive(Debug)]
 pub struct Lineage<A: Allocator> {
     /// How many entries there were.
     count: u32,

@@ -8,7 +8,7 @@ use std::alloc::{AllocError, Global};
 use std::collections::HashSet;
 
 /// What the refusals of one pair share.
-#[derive(Clone, Copy, Debug, PartialEq, Eq)]
+#[derive(Clone, Copy, PartialEq, Eq)]
 #[derive_where(Hash)]
 pub struct PairKey {
     pub lines: Lines,
@@ -17,7 +17,7 @@ pub struct PairKey {
 }
 
 /// A pair of lines that raced, and the spawn at which the strands part.
-#[derive(Clone, Copy, Debug, PartialEq, Eq)]
+#[derive(Clone, Copy, PartialEq, Eq)]
 pub struct Pair {
     pub lines: Lines,
     /// The line of the spawn at which the strands of each refused access and its witness part. None where the two are not parallel, or

@@ -8,7 +8,7 @@ use race_gate::{Answer, Entry};
 use text_words::{Asked, asked_by};
 
 /// Why an access was refused.
-#[derive(Clone, Copy, Debug, PartialEq, Eq)]
+#[derive(Clone, Copy, PartialEq, Eq)]
 pub enum Reason {
     /// It races with an earlier access of a logically parallel strand.
     Race { earlier: Kind, refused: Kind },
@@ -19,7 +19,7 @@ pub enum Reason {
 }
 
 /// The two lines that raced, and why.
-#[derive(Clone, Copy, Debug, PartialEq, Eq)]
+#[derive(Clone, Copy, PartialEq, Eq)]
 #[derive_where(Hash)]
 pub struct Lines {
     #[derive_where(skip(Hash))]
@@ -31,7 +31,7 @@ pub struct Lines {
 }
 
 /// What a refused entry tells.
-#[derive(Clone, Copy, Debug, PartialEq, Eq)]
+#[derive(Clone, Copy)]
 pub struct Refusal {
     pub reason: Reason,
     /// Its line.
@@ -43,7 +43,7 @@ pub struct Refusal {
 }
 
 /// An access that raced.
-#[derive(Clone, Copy, Debug, PartialEq, Eq)]
+#[derive(Clone, Copy)]
 pub struct Side {
     pub strand: u32,
     pub kind: Kind,

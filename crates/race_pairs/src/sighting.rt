@@ -8,7 +8,7 @@ use crate::refusal::{Lines, Refusal, Side, named_by, refusal_of, side_of};
 use race_gate::Entry;
 
 /// A refusal with all that is kept of it.
-#[derive(Clone, Copy, Debug, PartialEq, Eq)]
+#[derive(Clone, Copy)]
 pub struct Sighting {
     pub lines: Lines,
     /// The number of its entry, from 1 on.

@@ -17,7 +17,7 @@ use race_gate::{Answer, Entry};
 use text_words::Act;
 
 /// What has become of a strand behind some entries.
-#[derive(Clone, Copy, Debug, PartialEq, Eq)]
+#[derive(Clone, Copy)]
 pub enum Standing {
     /// It runs.
     Running,
@@ -30,7 +30,7 @@ pub enum Standing {
 }
 
 /// What an entry makes of a strand.
-#[derive(Clone, Copy, PartialEq, Eq)]
+#[derive(Clone, Copy)]
 pub enum Effect {
     /// It begins.
     Begins,

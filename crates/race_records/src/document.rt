@@ -33,7 +33,7 @@ use trace_notes::Notes;
 use trace_text::Trace;
 
 /// How a run or a trace came out.
-#[derive(Clone, Copy, Debug, PartialEq, Eq)]
+#[derive(Clone, Copy)]
 pub enum Outcome {
     /// It came to its end, and nothing was refused.
     Clean,

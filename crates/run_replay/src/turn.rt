@@ -17,7 +17,7 @@ use race_gate::{Answer, Core, Entry, GateFault};
 use std::alloc::Allocator;
 
 /// Why an entry is not played.
-#[derive(Clone, Copy, Debug, PartialEq, Eq)]
+#[derive(Clone, Copy)]
 pub enum Misfit {
     /// It does not follow, or is not answered so, or is one too many.
     Strange,

@@ -42,7 +42,7 @@ pub struct Elided<A: Allocator> {
 }
 
 /// Why there is no last memory.
-#[derive(Clone, Copy, Debug, PartialEq, Eq, Error)]
+#[derive(Clone, Copy, Debug, Error)]
 pub enum ElideFault {
     /// There are more requests than the limit.
     #[error("limit")]

@@ -1,7 +1,7 @@
 //! What a text is to mean.
 
 /// What a text is to mean.
-#[derive(Clone, Copy, Debug, PartialEq, Eq)]
+#[derive(Clone, Copy)]
 pub enum Meant {
     /// A program.
     Program,

@@ -4,7 +4,7 @@ use std::alloc::AllocError;
 use thiserror::Error;
 
 /// What a sync did.
-#[derive(Debug, Clone, Copy, PartialEq, Eq)]
+#[derive(Clone, Copy, PartialEq, Eq)]
 pub enum Synced {
     /// The function has no open block, and the strand goes on.
     Same,
@@ -15,7 +15,7 @@ pub enum Synced {
 }
 
 /// What a return did.
-#[derive(Debug, Clone, Copy, PartialEq, Eq)]
+#[derive(Clone, Copy, PartialEq, Eq)]
 pub enum Returned {
     /// The strand goes on in the caller.
     Resumed,

@@ -7,7 +7,7 @@ ghost use Rattle.sp_labels.specs.Roster.{record_at, IsPut};
 use std::alloc::Allocator;
 
 /// Whether a strand has begun, and whether it goes on.
-#[derive(Debug, Clone, Copy, PartialEq, Eq)]
+#[derive(Clone, Copy)]
 pub enum Standing {
     /// A join that has not begun, and no sync waits for it.
     Reserved,
@@ -18,7 +18,7 @@ pub enum Standing {
 }
 
 /// The innermost function or open block in which a strand stands.
-#[derive(Debug, Clone, Copy, PartialEq, Eq)]
+#[derive(Clone, Copy)]
 pub enum Scope {
     /// The root function.
     Root,
@@ -31,7 +31,7 @@ pub enum Scope {
 }
 
 /// A strand, and the block of which it is the join.
-#[derive(Debug, Clone, Copy, PartialEq, Eq)]
+#[derive(Clone, Copy)]
 pub struct Record {
     pub scope: Scope,
     /// How many children of its block have not returned.

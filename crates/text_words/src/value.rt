@@ -44,7 +44,7 @@ pub struct Reducer {
 }
 
 /// A line of a trace that asks for something.
-#[derive(Clone, Copy, Debug, PartialEq, Eq)]
+#[derive(Clone, Copy, PartialEq, Eq)]
 pub struct TraceLine {
     /// What it asks for.
     pub request: Request,

@@ -60,7 +60,7 @@ use text_buffers::{push_number, push_words};
 use text_words::TextFault;
 
 /// The form of what is told.
-#[derive(Clone, Copy, Debug, PartialEq, Eq)]
+#[derive(Clone, Copy)]
 pub enum Rendering {
     /// Text, for a person.
     Text,
@@ -69,7 +69,7 @@ pub enum Rendering {
 }
 
 /// How something is told.
-#[derive(Debug, Drop)]
+#[derive(Drop)]
 pub struct Manner<'a> {
     /// Whether words of a text are painted, as on a terminal.
     pub is_painted: bool,
@@ -90,7 +90,7 @@ impl<'a> Model for Manner<'a> {
 }
 
 /// How a run that is told ended.
-#[derive(Clone, Copy, Debug, PartialEq, Eq)]
+#[derive(Clone, Copy)]
 pub enum End {
     /// It came to its end, and nothing was refused.
     Clean,

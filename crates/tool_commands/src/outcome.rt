@@ -16,7 +16,7 @@ use std::alloc::{AllocError, Allocator};
 use text_buffers::{push_number, push_words};
 
 /// What the replay of entries tells.
-#[derive(Clone, Copy, Debug, PartialEq, Eq)]
+#[derive(Clone, Copy)]
 pub(crate) enum Outcome {
     /// They are a finished run, and so many.
     Replayed(u64),

@@ -59,7 +59,7 @@ pub trait Door {
 }
 
 /// A door that lets each request pass at once.
-#[derive(Clone, Copy, Debug)]
+#[derive(Clone, Copy)]
 pub struct OpenDoor;
 
 impl Door for OpenDoor {

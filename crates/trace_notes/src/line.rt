@@ -10,7 +10,7 @@ use crate::place::split_place;
 use text_words::as_text;
 
 /// What a note says.
-#[derive(Clone, Copy, Debug)]
+#[derive(Clone, Copy)]
 pub enum Note<'a> {
     /// What the mark `@K` stands for: a place, which can be taken apart.
     Mark(u32, &'a str),

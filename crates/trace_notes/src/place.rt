@@ -21,7 +21,7 @@ pub enum Seen {
 }
 
 /// A place in a program's source, as a note says it.
-#[derive(Clone, Copy, Debug)]
+#[derive(Clone, Copy)]
 pub struct Place<'a> {
     /// The file and the line, and the column where it is told: `FILE:LINE` or `FILE:LINE:COLUMN`.
     pub location: &'a str,
