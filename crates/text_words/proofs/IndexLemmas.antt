@@ -154,23 +154,18 @@ module _ (known : Known) (cells : ℕ) (names : List (List ℕ)) (meanings : Lis
 
 -- ---- what is found
 
-module _ (known : Known) (cells : ℕ) (names : List (List ℕ)) (meanings : List Named) (indexed : IsIndexed known cells names meanings) where
-  -- what stands at a name's number is what the name stands for
-  pub meaning_named : (name : List ℕ) (number : ℕ) (found : Named) → name_number names name ≡ Some number → slice_get meanings number ≡ Some found → Some found ≡ named known name
-  meaning_named name number found e f = sym f ∙ (ap (meaning_at meanings) (sym e) ∙ indexed.finds name)
+-- what stands at the number of an equal name is what the name stands for
+pub meaning_found : (names : List (List ℕ)) (meanings lent : List Named) (key name : List ℕ) (number : ℕ) (found : Named) → lent ≡ meanings → bytes_eq key name ≡ true
+    → name_number names key ≡ Some number → slice_get lent number ≡ Some found → Some found ≡ meaning_at meanings (name_number names name)
+meaning_found names meanings lent key name number found same equal e f =
+    let numbered : name_number names name ≡ Some number = ap (name_number names) (sym ((bytes_decides key name).0 equal)) ∙ e in
+    sym f ∙ (ap (λ (xs : List Named). slice_get xs number) same ∙ sym (ap (meaning_at meanings) numbered))
 
-  pub meaning_lent : (lent : List Named) (key name : List ℕ) (number : ℕ) (found : Named) → lent ≡ meanings → bytes_eq key name ≡ true
-      → name_number names key ≡ Some number → slice_get lent number ≡ Some found → Some found ≡ named known name
-  meaning_lent lent key name number found same equal e f =
-      meaning_named name number found (ap (name_number names) (sym ((bytes_decides key name).0 equal)) ∙ e) (ap (λ (xs : List Named). slice_get xs number) (sym same) ∙ f)
-
-  pub none_named : (name : List ℕ) → name_number names name ≡ None → None ≡ named known name
-  none_named name e = ap (meaning_at meanings) (sym e) ∙ indexed.finds name
-
-  -- what is found is a name
-  pub found_is_name : (name : List ℕ) (o : Option Named) → o ≡ named known name → OnSome o (IsName name)
-  found_is_name name None e = tt
-  found_is_name name (Some found) e = indexed.named_only name found (sym e)
+-- what is found is a name
+pub found_is_name : (known : Known) (cells : ℕ) (names : List (List ℕ)) (meanings : List Named) → IsIndexed known cells names meanings
+    → (name : List ℕ) (found : Option Named) → found ≡ named known name → OnSome found (IsName name)
+found_is_name known cells names meanings indexed name None e = tt
+found_is_name known cells names meanings indexed name (Some found) e = indexed.named_only name found (sym e)
 
 -- ---- the same for what the calls say of their results
 

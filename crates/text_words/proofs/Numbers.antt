@@ -1,5 +1,5 @@
 -- The numbers of names in a list: how they are found, and how the list grows.
-use Rattle.std.proofs.Common.{◌≡◌, ℕ, zero, suc, ◌<◌, ◌≤◌, ◌+◌, ◌∷◌, ◌++◌, [], List, Bool, true, false, cond, length, arith, refl, sym, ap, ◌∙◌, inl, inr, zero-add, ◌⊎◌}
+use Rattle.std.proofs.Common.{◌≡◌, ℕ, zero, suc, ◌<◌, ◌+◌, ◌∷◌, ◌++◌, [], List, Bool, true, false, cond, length, arith, refl, sym, ap, ◌∙◌, inl, inr, zero-add, ◌⊎◌}
 use Rattle.std.specs.Prelude.{Option, Some, None, option_copied, slice_get}
 use Rattle.std.specs.Slice.{IsItemAt}
 use denote.Ref.{Bor}

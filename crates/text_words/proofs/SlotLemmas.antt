@@ -1,11 +1,11 @@
 -- How names are stored in slots and in the tree, and found there.
-use Rattle.std.proofs.Common.{◌≡◌, ◌≢◌, ℕ, ◌<◌, ◌≤◌, ◌+◌, ◌∷◌, ◌++◌, [], List, Bool, true, false, cond, length, arith, refl, sym, ap, subst, ◌∙◌, inl, inr, ◌⊎◌, ◌-◌, map, get_or, zero, suc, take, drop, append-nil}
+use Rattle.std.proofs.Common.{◌≡◌, ℕ, ◌<◌, ◌≤◌, ◌+◌, ◌∷◌, ◌++◌, [], List, Bool, true, false, cond, length, arith, refl, sym, ap, subst, ◌∙◌, inl, inr, ◌⊎◌, ◌-◌, map, get_or, zero, suc, take, drop, append-nil}
 use Rattle.std.specs.Prelude.{Option, Some, None, IfSome, option_map, option_copied, slice_get, slice_index}
 use Rattle.std.specs.Slice.{IsItemAt}
 use Rattle.std.specs.Str.{bytes_eq}
 use Rattle.std.specs.Cmp.Lexicographic.{bytes_decides, slice_cmp}
 use Rattle.std.specs.Ordering.{nat_cmp}
-use Rattle.std.specs.Map.{lookup, update}
+use Rattle.std.specs.Map.{lookup}
 use Rattle.std.specs.BTreeMap.{BTreeMap, UpdatesBy, IsUnchanged, is_at}
 use Rattle.std.proofs.lemmas.List.{get_or_past, drop_all, take_all}
 use Rattle.std.proofs.lemmas.Option.{slice_get_within, slice_get-get_or, slice_get-map}
@@ -13,9 +13,9 @@ use Rattle.std.proofs.lemmas.Bool.{false≢true}
 use Rattle.std.proofs.lemmas.Map.Text.{btree_map_updates_str}
 use denote.Ref.{Bor}
 use Rattle.text_words.specs.declared.name_index.Seen.{Seen}
-use Rattle.text_words.specs.declared.name_index.Seen.TheVariants.{Free, Same, Other}
+use Rattle.text_words.specs.declared.name_index.Seen.TheVariants.{Same, Other}
 use Rattle.text_words.specs.Slots.{name_number, first_slot, second_slot, overflow_at, HasName, IsTaken, IsStored, AreNumbered, IsOverflow, AreStored, IsNameIndex, KeepsTaken, AddsAt, KeepsOverflow, IsSeen}
-use Rattle.text_words.proofs.Numbers.{get_cases, copied_get, number_at, number_none, number_stays, number_new}
+use Rattle.text_words.proofs.Numbers.{get_cases, copied_get, number_at, number_stays, number_new}
 
 abbrev Tree : Type 0
 Tree = BTreeMap (Bor (List ℕ)) ℕ

@@ -1,13 +1,14 @@
 //! The names that are declared.
 
-ghost use Rattle.std.specs.Prelude.{◌≡◌, ◌+◌, ◌<◌, ◌≤◌, [], OnOk, OnErr, OnSome, unwrap_or, length};
+ghost use Rattle.std.specs.Prelude.{◌≡◌, ◌+◌, ◌<◌, ◌≤◌, ℕ, List, [], ◌∷◌, ◌++◌, None, OnOk, OnErr, OnSome, unwrap_or, length};
 ghost use Rattle.std.specs.List.{All};
 ghost use Rattle.text_words.specs.Text.{IsName};
 ghost use Rattle.model_accesses.specs.Limits.{most_cells};
 ghost use Rattle.model_reducers.specs.Limits.{most_reducers};
 ghost use Rattle.text_words.specs.Names.{IsFresh};
 ghost use Rattle.text_words.specs.Declarations.{cells_of, memory_from, with_memory, with_reducer};
-ghost use Rattle.text_words.specs.Index.{named, name_of_memory, IsApart, IsInRange};
+ghost use Rattle.text_words.specs.Index.{meaning_at, named, name_of_memory, IsApart, IsInRange};
+ghost use Rattle.text_words.specs.Slots.{name_number};
 
 use crate::name::Name;
 use crate::name_index::NameIndex;
@@ -42,15 +43,12 @@ fn memory(at: u32, first: u32, name: &str, length: Option<u32>) -> Mem
 }
 
 /// What the name of a memory stands for.
-fn named_of(mem: &Mem) -> Named
-    ensures { result ≡ name_of_memory mem.now }
+fn named_of(first: u32, length: Option<u32>) -> Named
+    ensures { (at : ℕ) (name : List ℕ) → result ≡ name_of_memory (memory_from at first name length) }
 {
-    let first = mem.first;
-    let cells = mem.cells;
-    if mem.array {
-        Named::Array { first, cells }
-    } else {
-        Named::Single(first)
+    match length {
+        Some(cells) => Named::Array { first, cells },
+        None => Named::Single(first),
     }
 }
 
@@ -73,6 +71,69 @@ fn hint_of(name: &[u8]) -> usize
     usize::from(hint)
 }
 
+/// Names with what they stand for, which are found in logarithmic time.
+#[derive(Drop)]
+struct Meanings<'a, A: Allocator> {
+    index: NameIndex<'a, A>,
+    // What each name of the index stands for.
+    meanings: Vec<Named, A>,
+    // Where in the index the newest name with that hint stands. Nothing rests on it but speed.
+    hints: [usize; HINTS],
+}
+
+impl<'a, A: Allocator + Copy> Meanings<'a, A> {
+    /// No names yet.
+    fn new(alloc: A) -> Meanings<'a, A>
+        ensures index { result.index ≡ [] }
+        ensures meanings { result.meanings.items ≡ [] }
+    {
+        Meanings {
+            index: NameIndex::new(alloc),
+            meanings: Vec::new(alloc),
+            hints: [0; HINTS],
+        }
+    }
+
+    /// What a name stands for.
+    #[inline(always)]
+    fn find(&self, name: &[u8]) -> Option<Named>
+        ensures { result ≡ meaning_at self.now.meanings.items (name_number self.now.index name.now) }
+    {
+        let number = self.hints[hint_of(name)];
+        match (self.index.get(number), self.meanings.get(number)) {
+            (Some(key), Some(found)) if key == name => Some(*found),
+            _ => self.search(name),
+        }
+    }
+
+    /// What a name stands for, by the index.
+    #[inline(never)]
+    fn search(&self, name: &[u8]) -> Option<Named>
+        ensures { result ≡ meaning_at self.now.meanings.items (name_number self.now.index name.now) }
+    {
+        match self.index.find(name) {
+            Some(number) => self.meanings.get(number).copied(),
+            None => None,
+        }
+    }
+
+    /// Adds a name with what it stands for.
+    #[inline(always)]
+    fn add(&mut self, name: &'a [u8], meaning: Named) -> Result<(), AllocError>
+        requires fresh { name_number self.old.index name.now ≡ None }
+        ensures ok { OnOk result ((self.new.index ≡ self.old.index ++ name.now ∷ [])
+            × (self.new.meanings.items ≡ self.old.meanings.items ++ meaning ∷ [])) }
+        ensures err { OnErr result ((self.new.index ≡ self.old.index) × (self.new.meanings.items ≡ self.old.meanings.items)) }
+    {
+        let number = self.index.len();
+        self.meanings.reserve(1)?;
+        self.index.add(name)?;
+        self.meanings.push_reserved(meaning);
+        self.hints[hint_of(name)] = number;
+        Ok(())
+    }
+}
+
 /// The declarations of a text, whose names are found in logarithmic time. Contracts see the version and the lists of declarations.
 #[derive(Drop)]
 pub struct Names<'a, A: Allocator> {
@@ -80,11 +141,7 @@ pub struct Names<'a, A: Allocator> {
     mems: Vec<Mem, A>,
     reducers: Vec<Reducer, A>,
     cells: u32,
-    index: NameIndex<'a, A>,
-    // What each name of the index stands for.
-    meanings: Vec<Named, A>,
-    // Where in the index the newest name with that hint stands. Nothing rests on it but speed.
-    hints: [usize; HINTS],
+    meanings: Meanings<'a, A>,
 }
 
 impl<'a, A: Allocator> Model for Names<'a, A> {
@@ -97,7 +154,7 @@ impl<'a, A: Allocator> Model for Names<'a, A> {
 
     ghost invariant = { λ names.
         IsIndexed (record { version = names.version; mems = names.mems.items; reducers = names.reducers.items })
-        names.cells names.index names.meanings.items };
+        names.cells names.meanings.index names.meanings.meanings.items };
 }
 
 impl<'a, A: Allocator + Copy> Names<'a, A> {
@@ -110,9 +167,7 @@ impl<'a, A: Allocator + Copy> Names<'a, A> {
             mems: Vec::new(alloc),
             reducers: Vec::new(alloc),
             cells: 0,
-            index: NameIndex::new(alloc),
-            meanings: Vec::new(alloc),
-            hints: [0; HINTS],
+            meanings: Meanings::new(alloc),
         }
     }
 
@@ -140,22 +195,7 @@ impl<'a, A: Allocator + Copy> Names<'a, A> {
         ensures apart { IsApart self.now name.now }
         ensures in_range { All IsInRange self.now.mems }
     {
-        let number = self.hints[hint_of(name)];
-        match (self.index.get(number), self.meanings.get(number)) {
-            (Some(key), Some(found)) if key == name => Some(*found),
-            _ => self.search(name),
-        }
-    }
-
-    /// What a name stands for, by the index.
-    #[inline(never)]
-    fn search(&self, name: &[u8]) -> Option<Named>
-        ensures { result ≡ named self.now name.now }
-    {
-        match self.index.find(name) {
-            Some(number) => self.meanings.get(number).copied(),
-            None => None,
-        }
+        self.meanings.find(name)
     }
 
     /// How many cells the memories have.
@@ -187,17 +227,12 @@ impl<'a, A: Allocator + Copy> Names<'a, A> {
         ensures ok { OnOk result (self.new ≡ with_memory at self.old name.now length) }
         ensures err { OnErr result (self.new ≡ self.old) }
     {
-        let mem = memory(at, self.cells, name, length);
-        let meaning = named_of(&mem);
-        let cells = mem.cells;
-        let number = self.index.len();
         self.mems.reserve(1)?;
-        self.meanings.reserve(1)?;
-        self.index.add(name.as_bytes())?;
+        self.meanings
+            .add(name.as_bytes(), named_of(self.cells, length))?;
+        let mem = memory(at, self.cells, name, length);
+        self.cells += mem.cells;
         self.mems.push_reserved(mem);
-        self.meanings.push_reserved(meaning);
-        self.hints[hint_of(name.as_bytes())] = number;
-        self.cells += cells;
         Ok(())
     }
 
@@ -210,17 +245,13 @@ impl<'a, A: Allocator + Copy> Names<'a, A> {
         ensures err { OnErr result (self.new ≡ self.old) }
     {
         let meaning = Named::Reducer(self.reducers.len() as u32);
-        let number = self.index.len();
         self.reducers.reserve(1)?;
-        self.meanings.reserve(1)?;
-        self.index.add(name.as_bytes())?;
+        self.meanings.add(name.as_bytes(), meaning)?;
         self.reducers.push_reserved(Reducer {
             name: Name::new(name),
             monoid,
             line: at,
         });
-        self.meanings.push_reserved(meaning);
-        self.hints[hint_of(name.as_bytes())] = number;
         Ok(())
     }
 
@@ -233,9 +264,7 @@ impl<'a, A: Allocator + Copy> Names<'a, A> {
             mems,
             reducers,
             cells: _,
-            index: _,
             meanings: _,
-            hints: _,
         } = self;
         (version, mems, reducers)
     }

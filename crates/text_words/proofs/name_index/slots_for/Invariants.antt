@@ -1,4 +1,4 @@
-use Rattle.std.proofs.Common.{◌≡◌, ◌≤◌, length, map}
+use Rattle.std.proofs.Common.{◌≡◌, length, map}
 use Rattle.text_words.specs.Slots.{AreStored, IsOverflow, KeepsOverflow}
 use Rattle.text_words.proofs.SlotLemmas.{now_of}
 use Rattle.text_words.proofs.name_index.slots_for.Given as goal

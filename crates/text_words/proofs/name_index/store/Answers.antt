@@ -1,4 +1,3 @@
-use Rattle.std.specs.Prelude.{Some}
 use Rattle.text_words.proofs.SlotLemmas.{adds_at}
 use Rattle.text_words.proofs.name_index.store.Goals as goal
 

@@ -1,7 +1,7 @@
 use Rattle.std.proofs.Common.{◌≡◌, ℕ, List, length, map, sym, ap, ◌∙◌, rules}
-use Rattle.text_words.specs.declared.name_index.Seen.TheVariants.{Free, Same, Other}
+use Rattle.text_words.specs.declared.name_index.Seen.TheVariants.{Free, Other}
 use Rattle.text_words.specs.Slots.{first_slot, second_slot}
-use Rattle.text_words.proofs.SlotLemmas.{now_of, no_slots, free_first, free_second, in_tree, seen_in, same_number}
+use Rattle.text_words.proofs.SlotLemmas.{now_of, no_slots, free_first, free_second, in_tree, seen_in}
 use Rattle.text_words.proofs.name_index.NameIndex.find.Goals as goal
 
 pub returns-then-is_empty : goal.returns-then-is_empty
