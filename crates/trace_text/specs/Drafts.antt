@@ -1,5 +1,6 @@
 -- What was read so far, and what one more line makes of it.
-use Rattle.std.specs.Prelude.{◌≡◌, ℕ, ◌<◌, ◌≤◌, ◌⊎◌, List, [], ◌∷◌, ◌++◌, length}
+use Rattle.std.specs.Prelude.{◌≡◌, ℕ, ◌<◌, ◌≤◌, ◌⊎◌, Option, Some, None, List, [], ◌∷◌, ◌++◌, length}
+use denote.Ref.{Bor}
 use Rattle.text_words.specs.declared.fault.Cause.{Cause}
 use Rattle.text_words.specs.declared.fault.Cause.TheVariants.{BadNesting, TooMany}
 use Rattle.text_words.specs.declared.fault.TextFault.{TextFault}
@@ -60,6 +61,11 @@ pub record IsTold (at : ℕ) (before : Contents) (text rest : List ℕ) (next : 
   pub line : TraceLine
   pub added : next ≡ so_far before.known (before.lines ++ line ∷ [])
   pub exact : IsSettled before.known → front ≡ entry_text before.known (OfRequest line)
+
+-- The first line of the text is such a request, and the rest behind it is given; or nothing is given, and nothing changes.
+abbrev pub TellsIfSome : ℕ → Contents → List ℕ → Option (Bor (List ℕ)) → Contents → Type 0
+TellsIfSome at before text (Some rest) next = IsTold at before text rest.now next
+TellsIfSome at before text None next = next ≡ before
 
 abbrev pub IsHeaderFault : List ℕ → TextFault → Type 0
 IsHeaderFault line fault = IsFaultOf (IsLowest (HeaderFault line)) 1 fault

@@ -4,13 +4,12 @@
 //! `self.take_control(at, Act::Spawn, text)`, `self.take_access(at, Kind::Read, text)` and so on does the same, and takes 4 to 18 % more of
 //! the time of `judge`. Any line can be read as [`Draft::take_lines`] reads those that are not in plain form.
 
-ghost use Rattle.std.specs.Prelude.{◌≡◌, ◌<◌, ◌≤◌, ℕ, List, length, IsNone};
-ghost use Rattle.std.specs.Option.{IfSome};
+ghost use Rattle.std.specs.Prelude.{◌<◌, ◌≤◌, ℕ, List, length};
 ghost use Rattle.trace_text.specs.Lines.{HasKeyword, IsControl};
 ghost use Rattle.trace_text.specs.declared.keyword.Keyword.TheVariants.{Access};
 ghost use Rattle.trace_text.specs.Plain.{BeginsRequest};
 ghost use Rattle.text_words.specs.Limits.{most_lines};
-ghost use Rattle.trace_text.specs.Drafts.{so_far, IsTold};
+ghost use Rattle.trace_text.specs.Drafts.{so_far, TellsIfSome};
 ghost use Rattle.trace_text.specs.Pieces.{ReadsPlain};
 
 use crate::keyword::{keyword_for, keyword_word};
@@ -26,9 +25,8 @@ impl<'a, A: Allocator + Copy> Draft<'a, A> {
     /// changes nothing, where the line does not end in plain form or has no room.
     #[inline(always)]
     fn ask_plain<'b>(&mut self, at: u32, strand: u32, act: Act, bytes: &'b [u8]) -> Option<&'b [u8]>
-        ensures asked { IfSome result (λ rest. (text : List ℕ) → BeginsRequest self.old.names text strand act bytes.now →
-            IsTold at (so_far self.old.names self.old.lines) text rest.now (so_far self.new.names self.new.lines)) }
-        ensures unchanged { IsNone result → so_far self.new.names self.new.lines ≡ so_far self.old.names self.old.lines }
+        ensures { (text : List ℕ) → BeginsRequest self.old.names text strand act bytes.now →
+            TellsIfSome at (so_far self.old.names self.old.lines) text result (so_far self.new.names self.new.lines) }
     {
         let Some((mark, rest)) = mark(bytes) else {
             return None;
@@ -47,8 +45,7 @@ impl<'a, A: Allocator + Copy> Draft<'a, A> {
     #[inline(always)]
     fn take_control<'b>(&mut self, at: u32, act: Act, text: &'b [u8]) -> Option<&'b [u8]>
         requires { IsControl act }
-        ensures taken { IfSome result (λ rest. IsTold at (so_far self.old.names self.old.lines) text.now rest.now (so_far self.new.names self.new.lines)) }
-        ensures unchanged { IsNone result → so_far self.new.names self.new.lines ≡ so_far self.old.names self.old.lines }
+        ensures { TellsIfSome at (so_far self.old.names self.old.lines) text.now result (so_far self.new.names self.new.lines) }
     {
         let Some(rest) = behind_word(keyword_word(keyword_for(act)).as_bytes(), text) else {
             return None;
@@ -63,8 +60,7 @@ impl<'a, A: Allocator + Copy> Draft<'a, A> {
     #[inline(always)]
     fn take_access<'b>(&mut self, at: u32, kind: Kind, text: &'b [u8]) -> Option<&'b [u8]>
         requires { HasKeyword self.old.names.version (Access kind) }
-        ensures taken { IfSome result (λ rest. IsTold at (so_far self.old.names self.old.lines) text.now rest.now (so_far self.new.names self.new.lines)) }
-        ensures unchanged { IsNone result → so_far self.new.names self.new.lines ≡ so_far self.old.names self.old.lines }
+        ensures { TellsIfSome at (so_far self.old.names self.old.lines) text.now result (so_far self.new.names self.new.lines) }
     {
         let Some(rest) = behind_word(word(kind).as_bytes(), text) else {
             return None;
@@ -83,56 +79,49 @@ impl<'a, A: Allocator + Copy> Draft<'a, A> {
 
     /// The same of a spawn, by a function without a hint, as for each keyword.
     fn take_spawn<'b>(&mut self, at: u32, text: &'b [u8]) -> Option<&'b [u8]>
-        ensures taken { IfSome result (λ rest. IsTold at (so_far self.old.names self.old.lines) text.now rest.now (so_far self.new.names self.new.lines)) }
-        ensures unchanged { IsNone result → so_far self.new.names self.new.lines ≡ so_far self.old.names self.old.lines }
+        ensures { TellsIfSome at (so_far self.old.names self.old.lines) text.now result (so_far self.new.names self.new.lines) }
     {
         self.take_control(at, Act::Spawn, text)
     }
 
     /// The same of a sync.
     fn take_sync<'b>(&mut self, at: u32, text: &'b [u8]) -> Option<&'b [u8]>
-        ensures taken { IfSome result (λ rest. IsTold at (so_far self.old.names self.old.lines) text.now rest.now (so_far self.new.names self.new.lines)) }
-        ensures unchanged { IsNone result → so_far self.new.names self.new.lines ≡ so_far self.old.names self.old.lines }
+        ensures { TellsIfSome at (so_far self.old.names self.old.lines) text.now result (so_far self.new.names self.new.lines) }
     {
         self.take_control(at, Act::Sync, text)
     }
 
     /// The same of a call.
     fn take_call<'b>(&mut self, at: u32, text: &'b [u8]) -> Option<&'b [u8]>
-        ensures taken { IfSome result (λ rest. IsTold at (so_far self.old.names self.old.lines) text.now rest.now (so_far self.new.names self.new.lines)) }
-        ensures unchanged { IsNone result → so_far self.new.names self.new.lines ≡ so_far self.old.names self.old.lines }
+        ensures { TellsIfSome at (so_far self.old.names self.old.lines) text.now result (so_far self.new.names self.new.lines) }
     {
         self.take_control(at, Act::Call, text)
     }
 
     /// The same of a return.
     fn take_return<'b>(&mut self, at: u32, text: &'b [u8]) -> Option<&'b [u8]>
-        ensures taken { IfSome result (λ rest. IsTold at (so_far self.old.names self.old.lines) text.now rest.now (so_far self.new.names self.new.lines)) }
-        ensures unchanged { IsNone result → so_far self.new.names self.new.lines ≡ so_far self.old.names self.old.lines }
+        ensures { TellsIfSome at (so_far self.old.names self.old.lines) text.now result (so_far self.new.names self.new.lines) }
     {
         self.take_control(at, Act::Return, text)
     }
 
     /// The same of a read.
     fn take_read<'b>(&mut self, at: u32, text: &'b [u8]) -> Option<&'b [u8]>
-        ensures taken { IfSome result (λ rest. IsTold at (so_far self.old.names self.old.lines) text.now rest.now (so_far self.new.names self.new.lines)) }
-        ensures unchanged { IsNone result → so_far self.new.names self.new.lines ≡ so_far self.old.names self.old.lines }
+        ensures { TellsIfSome at (so_far self.old.names self.old.lines) text.now result (so_far self.new.names self.new.lines) }
     {
         self.take_access(at, Kind::Read, text)
     }
 
     /// The same of a write.
     fn take_write<'b>(&mut self, at: u32, text: &'b [u8]) -> Option<&'b [u8]>
-        ensures taken { IfSome result (λ rest. IsTold at (so_far self.old.names self.old.lines) text.now rest.now (so_far self.new.names self.new.lines)) }
-        ensures unchanged { IsNone result → so_far self.new.names self.new.lines ≡ so_far self.old.names self.old.lines }
+        ensures { TellsIfSome at (so_far self.old.names self.old.lines) text.now result (so_far self.new.names self.new.lines) }
     {
         self.take_access(at, Kind::Write, text)
     }
 
     /// The same of a bump, which version 2 alone has.
     fn take_bump<'b>(&mut self, at: u32, text: &'b [u8]) -> Option<&'b [u8]>
-        ensures taken { IfSome result (λ rest. IsTold at (so_far self.old.names self.old.lines) text.now rest.now (so_far self.new.names self.new.lines)) }
-        ensures unchanged { IsNone result → so_far self.new.names self.new.lines ≡ so_far self.old.names self.old.lines }
+        ensures { TellsIfSome at (so_far self.old.names self.old.lines) text.now result (so_far self.new.names self.new.lines) }
     {
         let Version::Two = self.names.version() else {
             return None;
@@ -142,24 +131,21 @@ impl<'a, A: Allocator + Copy> Draft<'a, A> {
 
     /// The same of an update.
     fn take_update<'b>(&mut self, at: u32, text: &'b [u8]) -> Option<&'b [u8]>
-        ensures taken { IfSome result (λ rest. IsTold at (so_far self.old.names self.old.lines) text.now rest.now (so_far self.new.names self.new.lines)) }
-        ensures unchanged { IsNone result → so_far self.new.names self.new.lines ≡ so_far self.old.names self.old.lines }
+        ensures { TellsIfSome at (so_far self.old.names self.old.lines) text.now result (so_far self.new.names self.new.lines) }
     {
         self.take_access(at, Kind::Update, text)
     }
 
     /// The same of a put.
     fn take_put<'b>(&mut self, at: u32, text: &'b [u8]) -> Option<&'b [u8]>
-        ensures taken { IfSome result (λ rest. IsTold at (so_far self.old.names self.old.lines) text.now rest.now (so_far self.new.names self.new.lines)) }
-        ensures unchanged { IsNone result → so_far self.new.names self.new.lines ≡ so_far self.old.names self.old.lines }
+        ensures { TellsIfSome at (so_far self.old.names self.old.lines) text.now result (so_far self.new.names self.new.lines) }
     {
         self.take_access(at, Kind::Put, text)
     }
 
     /// The same of a get.
     fn take_get<'b>(&mut self, at: u32, text: &'b [u8]) -> Option<&'b [u8]>
-        ensures taken { IfSome result (λ rest. IsTold at (so_far self.old.names self.old.lines) text.now rest.now (so_far self.new.names self.new.lines)) }
-        ensures unchanged { IsNone result → so_far self.new.names self.new.lines ≡ so_far self.old.names self.old.lines }
+        ensures { TellsIfSome at (so_far self.old.names self.old.lines) text.now result (so_far self.new.names self.new.lines) }
     {
         self.take_access(at, Kind::Get, text)
     }
@@ -168,8 +154,7 @@ impl<'a, A: Allocator + Copy> Draft<'a, A> {
     #[inline(always)]
     fn take_plain<'b>(&mut self, at: u32, text: &'b [u8]) -> Option<&'b [u8]>
         requires { 0 < length text.now }
-        ensures taken { IfSome result (λ rest. IsTold at (so_far self.old.names self.old.lines) text.now rest.now (so_far self.new.names self.new.lines)) }
-        ensures unchanged { IsNone result → so_far self.new.names self.new.lines ≡ so_far self.old.names self.old.lines }
+        ensures { TellsIfSome at (so_far self.old.names self.old.lines) text.now result (so_far self.new.names self.new.lines) }
     {
         match text[0] {
             b's' if text.len() > 1 && text[1] == b'p' => self.take_spawn(at, text),

@@ -4,8 +4,8 @@ use Rattle.trace_text.specs.Drafts.{so_far, AddsItem}
 use Rattle.trace_text.proofs.PlainTaken.{plain_told}
 use Rattle.trace_text.proofs.trace.Draft.ask_plain.Goals as goal
 
-pub returns-in-Ok-clause-asked : goal.returns-in-Ok-clause-asked
-returns-in-Ok-clause-asked g c text begins =
+pub returns-in-Ok : goal.returns-in-Ok
+returns-in-Ok g c text begins =
     let before = so_far c.args.self.now.names c.args.self.now.lines in
     let after = so_far c.ask.new.self.names c.ask.new.self.lines in
     let end = c.in-Some in
