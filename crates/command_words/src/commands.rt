@@ -1,7 +1,7 @@
 //! The commands for the parser of the command line: their texts, and the words that each takes.
 
 ghost use Rattle.std.specs.Prelude.{◌≡◌, IfOk, codes};
-ghost use Rattle.clap.specs.Words.{new_app};
+ghost use Rattle.clap.specs.Words.{App, Shape, new_app, with_subcommand};
 ghost use Rattle.command_words.specs.Commands.{free, wanted, several, option, flag, leaf, program, cilkcheck, IsArgument, IsCommand};
 ghost use Rattle.command_words.specs.Commands.{judge, elide, run, explain, replay, draw};
 
@@ -207,15 +207,25 @@ fn program<'a>(alloc: Global) -> Result<Command<'a>, AllocError>
         .bin_name("cilkcheck")
 }
 
+/// A command with one more command of its own, where there is memory for both.
+fn with<'a>(
+    whole: Result<Command<'a>, AllocError>,
+    part: Result<Command<'a>, AllocError>,
+) -> Result<Command<'a>, AllocError>
+    ensures { (app : App) (shape : Shape) → IfOk whole.entry (IsCommand app) → IfOk part.entry (IsCommand (leaf shape)) →
+        IfOk result (IsCommand (with_subcommand app shape)) }
+{
+    whole?.subcommand(part?)
+}
+
 /// The program with its commands.
 pub(crate) fn commands<'a>(alloc: Global) -> Result<Command<'a>, AllocError>
     ensures { IfOk result (IsCommand cilkcheck) }
 {
-    program(alloc)?
-        .subcommand(judge(alloc)?)?
-        .subcommand(elide(alloc)?)?
-        .subcommand(run(alloc)?)?
-        .subcommand(explain(alloc)?)?
-        .subcommand(replay(alloc)?)?
-        .subcommand(draw(alloc)?)
+    let program = with(program(alloc), judge(alloc));
+    let program = with(program, elide(alloc));
+    let program = with(program, run(alloc));
+    let program = with(program, explain(alloc));
+    let program = with(program, replay(alloc));
+    with(program, draw(alloc))
 }
