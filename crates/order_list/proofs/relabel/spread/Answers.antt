@@ -3,12 +3,21 @@ use Rattle.std.proofs.Math.Nat.{mul-div-le}
 use Rattle.std.proofs.lemmas.Nat.{le-div}
 use Rattle.order_list.specs.Order.{place_of}
 use Rattle.order_list.specs.Items.{items_of}
-use Rattle.order_list.proofs.Rings.{item_at}
+use Rattle.order_list.proofs.Rings.{item_at, known_at}
 use Rattle.order_list.proofs.Rises.{label_of}
 use Rattle.order_list.proofs.Spreads.{spread-none, spread-rises, spread-gap}
 use Rattle.order_list.proofs.Stretches.{spread-step}
 use Rattle.order_list.proofs.relabel.spread.Goals as goal
 use Rattle.order_list.proofs.relabel.spread.Goals.{then-item-stretch, else-item-stretch}
+
+pub overflow_sub-distance : goal.overflow_sub-distance
+overflow_sub-distance g c = omega (arith, c.requires.room.fits)
+
+pub overflow_sub-distance-2 : goal.overflow_sub-distance-2
+overflow_sub-distance-2 g c = omega (arith, c.requires.room.fits)
+
+pub nonzero_div-distance : goal.nonzero_div-distance
+nonzero_div-distance g c = omega (arith, c.requires.stretch.from, c.requires.stretch.to)
 
 pub loop-placed-init : goal.loop-placed-init
 loop-placed-init g c =
@@ -21,6 +30,33 @@ loop-placed-init g c =
       item = rw none (sym (item_at c.args.ring.now.tied.chain c.args.stretch.first c.requires.stretch.first_known));
       fits = rw all (omega (arith, mul-div-le (room.high - room.low - room.free) c.args.stretch.count, c.requires.room.fits));
     }
+
+pub bounds-labels-item : goal.bounds-labels-item
+bounds-labels-item g c =
+    let place = place_of c.args.stretch.first (items_of c.args.ring.now) + c.loop-placed.placed in
+    let known = known_at c.args.ring.now.tied.chain place (omega (arith, c.requires.stretch.within)) in
+    omega (arith, known, c.loop-placed.invariant.item, c.loop-placed.auto.labels, c.requires.was_rising.labels_len)
+
+pub overflow_add-label : goal.overflow_add-label
+overflow_add-label g c =
+    let left = c.args.stretch.count - (c.loop-placed.placed + 1) in
+    let distance = (c.args.room.high - c.args.room.low - c.args.room.free) / c.args.stretch.count in
+    let some : c.args.stretch.count - c.loop-placed.placed ≡ suc left = omega arith in
+    let product : (c.args.stretch.count - c.loop-placed.placed) * distance ≡ suc left * distance = ap (λ n. n * distance) some in
+    omega (arith, product, c.loop-placed.invariant.fits)
+
+pub overflow_add-label-then-item-stretch : goal.overflow_add-label-then-item-stretch
+overflow_add-label-then-item-stretch g c =
+    let left = c.args.stretch.count - (c.loop-placed.placed + 1) in
+    let distance = (c.args.room.high - c.args.room.low - c.args.room.free) / c.args.stretch.count in
+    let some : c.args.stretch.count - c.loop-placed.placed ≡ suc left = omega arith in
+    let product : (c.args.stretch.count - c.loop-placed.placed) * distance ≡ suc left * distance = ap (λ n. n * distance) some in
+    omega (arith, product, c.loop-placed.invariant.fits)
+
+pub next-item-requires : goal.next-item-requires
+next-item-requires g c =
+    let place = place_of c.args.stretch.first (items_of c.args.ring.now) + c.loop-placed.placed in
+    omega (arith, known_at c.args.ring.now.tied.chain place (omega (arith, c.requires.stretch.within)), c.loop-placed.invariant.item)
 
 pub loop-placed-preserved : goal.loop-placed-preserved
 loop-placed-preserved g c =
