@@ -32,6 +32,14 @@ place_at-item-requires c =
     let place = place_of c.args.first (items_along c.args.places.now) + c.loop-placed.placed in
     omega (arith, c.put.ensures.len, c.loop-placed.invariant.item, c.loop-placed.invariant.evened.len, chain_len c.args.places.now chain, chain.numbered place (omega (arith, c.requires.row.within)))
 
+pub overflow_add-local : goal.overflow_add-local
+overflow_add-local c =
+    let left = c.args.count - (c.loop-placed.placed + 1) in
+    let distance = 4294967295 / c.args.count in
+    let some : c.args.count - c.loop-placed.placed ≡ suc left = omega arith in
+    let product : (c.args.count - c.loop-placed.placed) * distance ≡ suc left * distance = ap (λ n. n * distance) some in
+    omega (arith, product, c.loop-placed.invariant.fits)
+
 pub loop-placed-preserved : goal.loop-placed-preserved
 loop-placed-preserved c =
     let chain = c.requires.chain in

@@ -1,0 +1,41 @@
+use Rattle.std.proofs.Common.{◌≡◌, ◌+◌, ◌<◌, length, ap, arith}
+use Rattle.order_list.specs.Places.{items_along}
+use Rattle.order_list.proofs.Insertions.{inserted-len, two-len, next-inserted}
+use Rattle.order_list.proofs.OrderList.insert_three.Goals as goal
+
+pub overflow_add-first : goal.overflow_add-first
+overflow_add-first g c =
+    let list = c.self.inside.list in
+    omega (arith, c.insert_two-first.ensures.item, list.few, list.grouped.len, list.places.ok)
+
+pub insert_reserved-requires-clause-known : goal.insert_reserved-requires-clause-known
+insert_reserved-requires-clause-known g c =
+    let list = c.self.inside.list in
+    let known : c.args.after < length (items_along list.places.items) = rw (← c.self.view_is) at c.requires.known in
+    let first = c.insert_two-first.ensures.item in
+    let two = two-len (items_along list.places.items) c.insert_two-first.result list.grouped.chain.listing known first (omega (arith, first, known)) c.insert_two-first.ensures.items in
+    omega (arith, first, two)
+
+pub returns-clause-items : goal.returns-clause-items
+returns-clause-items g c =
+    let list = c.self.inside.list in
+    let known : c.args.after < length (items_along list.places.items) = rw (← c.self.view_is) at c.requires.known in
+    let first = c.insert_two-first.ensures.item in
+    let two = two-len (items_along list.places.items) c.insert_two-first.result list.grouped.chain.listing known first (omega (arith, first, known)) c.insert_two-first.ensures.items in
+    let third : c.insert_reserved.result ≡ c.insert_two-first.result + 2 = omega (arith, c.insert_reserved.ensures.item, first, two) in
+    rw (← c.self.view_is) (next-inserted _ (c.insert_two-first.result + 1) (c.insert_two-first.result + 2) c.insert_two-first.ensures.items third c.insert_reserved.ensures.items)
+
+pub returns-clause-len : goal.returns-clause-len
+returns-clause-len g c =
+    let list = c.self.inside.list in
+    let known : c.args.after < length (items_along list.places.items) = rw (← c.self.view_is) at c.requires.known in
+    let first = c.insert_two-first.ensures.item in
+    let two = two-len (items_along list.places.items) c.insert_two-first.result list.grouped.chain.listing known first (omega (arith, first, known)) c.insert_two-first.ensures.items in
+    let three = inserted-len _ (c.insert_two-first.result + 1) c.insert_reserved.result c.insert_two-first.new.self.grouped.chain.listing (omega (arith, first, two)) in
+    rw (← c.self.view_is) (omega (arith, ap length c.insert_reserved.ensures.items, three, two))
+
+pub returns-clause-few : goal.returns-clause-few
+returns-clause-few g c =
+    let list = c.self.inside.list in
+    let room : 2 < list.reserved = rw (← c.self.view_is) at c.requires.room in
+    omega (arith, c.insert_two-first.ensures.item, list.few, list.grouped.len, list.places.ok, room)
