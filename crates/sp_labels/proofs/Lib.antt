@@ -4,6 +4,7 @@ pub mod Packed
 pub mod Scopes
 pub mod Counts
 pub mod Queries
+pub mod Causes
 pub mod Acting
 pub mod Opening
 pub mod Quiet

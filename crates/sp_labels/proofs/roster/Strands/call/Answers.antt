@@ -5,6 +5,7 @@ use Rattle.model_strands.specs.Strands.{Running}
 use Rattle.model_strands.specs.History.{call}
 use Rattle.sp_labels.specs.Packing.{all_unpacked}
 use Rattle.sp_labels.specs.Roster.{Follows}
+use Rattle.sp_labels.proofs.Causes.{no-room}
 use Rattle.sp_labels.proofs.Acting.{acting-known}
 use Rattle.sp_labels.proofs.Quiet.{follows-call}
 use Rattle.sp_labels.proofs.roster.Strands.call.Goals as goal
@@ -28,4 +29,4 @@ returns-clause-ok g c history now =
 pub invariant_of-self-2 : goal.invariant_of-self-2
 invariant_of-self-2 g c =
     let (history, f) = c.self.invariant.0 in
-    ((call c.args.strand ∷ history, returns-clause-ok g c history (subst (λ r. Follows r history) c.self.view_is f)), (λ e. absurd (cc)))
+    ((call c.args.strand ∷ history, returns-clause-ok g c history (subst (λ r. Follows r history) c.self.view_is f)), no-room)

@@ -1,4 +1,5 @@
 use Rattle.std.proofs.Common.{◌≡◌, ◌≢◌, ◌∷◌, ◌∙◌, sym, ap, subst, arith, refl}
+use Rattle.std.proofs.lemmas.Bool.{both_ways}
 use Rattle.model_strands.specs.History.{ended, ended_joined}
 use Rattle.model_strands.specs.Blocks.{enclosing}
 use Rattle.law_strands.specs.Counts.{children_left}
@@ -6,6 +7,7 @@ use Rattle.sp_labels.specs.declared.record.Standing.TheVariants.{Over}
 use Rattle.sp_labels.specs.declared.record.Record.{Record}
 use Rattle.sp_labels.specs.Packing.{all_unpacked}
 use Rattle.sp_labels.specs.Roster.{Follows, record_at, IsPut}
+use Rattle.sp_labels.proofs.Causes.{no-room}
 use Rattle.sp_labels.proofs.Queries.{running-known}
 use Rattle.sp_labels.proofs.Acting.{join-known}
 use Rattle.sp_labels.proofs.Counts.{child-left, join-apart}
@@ -52,12 +54,12 @@ returns-then-matches-clause-returned g c history now =
     let kept : Record = record_at (all_unpacked c.self.inside.records.items) c.args.strand in
     let put : IsPut (all_unpacked c.self.inside.records.items) c.args.strand (record kept { standing = Over }) (all_unpacked c.set_standing.new.records.items) = c.set_standing.ensures.put in
     follows-ended-joined _ history c.args.strand at.0 c.args.join _ _ _ _ _ f run at.1 refl put c.record_of-joining.ensures refl c.put.ensures.put
-    c.if-children_left-eq0.true (elim c.match-matches.branch [ in-Awaited w ↦ w.in-Awaited.is | in_default w ↦ absurd (let e = c.if-matches.true in let g = w.matches-is in cc) ])
+    c.if-children_left-eq0.true (elim c.match-matches.branch [ in-Awaited w ↦ w.in-Awaited.is | in_default w ↦ absurd (both_ways _ w.matches-is c.if-matches.true) ])
 
 pub invariant_of-self : goal.invariant_of-self
 invariant_of-self g c =
     let (history, f) = c.self.invariant.0 in
-    ((ended_joined c.args.strand c.args.join ∷ history, returns-then-matches-clause-returned g c history (subst (λ r. Follows r history) c.self.view_is f)), (λ e. absurd (cc)))
+    ((ended_joined c.args.strand c.args.join ∷ history, returns-then-matches-clause-returned g c history (subst (λ r. Follows r history) c.self.view_is f)), no-room)
 
 pub returns-else-children_left-eq0-clause-returned : goal.returns-else-children_left-eq0-clause-returned
 returns-else-children_left-eq0-clause-returned g c history now =
@@ -69,7 +71,7 @@ returns-else-children_left-eq0-clause-returned g c history now =
     follows-ended _ history c.args.strand at.0 c.args.join _ _ _ _ _ f run at.1 refl put c.record_of-joining.ensures refl c.put-else-children_left-eq0.ensures.put
     (elim c.else-children_left-eq0.branch [
       | else-children_left-eq0-via-then-children_left-eq0+else-matches w ↦ elim w.match-matches.branch [
-        | in-Awaited v ↦ (λ none awaited. let e = w.if-matches.false in let g = v.matches-is in cc)
+        | in-Awaited v ↦ (λ none awaited. both_ways _ w.if-matches.false v.matches-is)
         | in_default v ↦ (λ none awaited. v.in_default.not-Awaited awaited)
       ]
       | else-children_left-eq0-via-else-children_left-eq0 w ↦ (λ none awaited. w.if-children_left-eq0.false none)
@@ -78,4 +80,4 @@ returns-else-children_left-eq0-clause-returned g c history now =
 pub invariant_of-self-else-children_left-eq0 : goal.invariant_of-self-else-children_left-eq0
 invariant_of-self-else-children_left-eq0 g c =
     let (history, f) = c.self.invariant.0 in
-    ((ended c.args.strand ∷ history, returns-else-children_left-eq0-clause-returned g c history (subst (λ r. Follows r history) c.self.view_is f)), (λ e. absurd (cc)))
+    ((ended c.args.strand ∷ history, returns-else-children_left-eq0-clause-returned g c history (subst (λ r. Follows r history) c.self.view_is f)), no-room)

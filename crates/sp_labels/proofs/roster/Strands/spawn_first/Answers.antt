@@ -3,6 +3,7 @@ use Rattle.model_strands.specs.History.{split}
 use Rattle.order_list.specs.Order.{insert_behind}
 use Rattle.sp_labels.specs.Packing.{all_unpacked}
 use Rattle.sp_labels.specs.Roster.{Follows}
+use Rattle.sp_labels.proofs.Causes.{no-room}
 use Rattle.sp_labels.proofs.Puts.{standing-put}
 use Rattle.sp_labels.proofs.Queries.{running-known}
 use Rattle.sp_labels.proofs.Placed.{order-grows}
@@ -63,4 +64,4 @@ returns-clause-spawned g c history now =
 pub invariant_of-self : goal.invariant_of-self
 invariant_of-self g c =
     let (history, f) = c.self.invariant.0 in
-    ((split c.args.strand c.insert_three-child.result (c.insert_three-child.result + 1) (c.insert_three-child.result + 2) true ∷ history, returns-clause-spawned g c history (subst (λ r. Follows r history) c.self.view_is f)), (λ e. absurd (cc)))
+    ((split c.args.strand c.insert_three-child.result (c.insert_three-child.result + 1) (c.insert_three-child.result + 2) true ∷ history, returns-clause-spawned g c history (subst (λ r. Follows r history) c.self.view_is f)), no-room)

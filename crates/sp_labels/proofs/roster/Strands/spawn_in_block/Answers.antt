@@ -8,6 +8,7 @@ use Rattle.sp_labels.specs.declared.record.Standing.TheVariants.{Over}
 use Rattle.sp_labels.specs.declared.record.Record.{Record}
 use Rattle.sp_labels.specs.Packing.{all_unpacked}
 use Rattle.sp_labels.specs.Roster.{Follows, record_at, IsPut}
+use Rattle.sp_labels.proofs.Causes.{no-room}
 use Rattle.sp_labels.proofs.Queries.{running-known}
 use Rattle.sp_labels.proofs.Placed.{order-grows}
 use Rattle.sp_labels.proofs.Splits.{follows-later}
@@ -90,4 +91,4 @@ returns-clause-spawned g c history now =
 pub invariant_of-self : goal.invariant_of-self
 invariant_of-self g c =
     let (history, f) = c.self.invariant.0 in
-    ((split c.args.strand c.insert_two-child.result (c.insert_two-child.result + 1) c.args.join false ∷ history, returns-clause-spawned g c history (subst (λ r. Follows r history) c.self.view_is f)), (λ e. absurd (cc)))
+    ((split c.args.strand c.insert_two-child.result (c.insert_two-child.result + 1) c.args.join false ∷ history, returns-clause-spawned g c history (subst (λ r. Follows r history) c.self.view_is f)), no-room)
