@@ -1,10 +1,11 @@
 -- Facts on kinds, by cases.
-use Rattle.std.proofs.Common.{◌≡◌, ◌≢◌, ◌⊎◌, ◌≤◌, inl, inr, get_or, arith, refl, sym, ap, ◌∙◌}
+use Rattle.std.proofs.Common.{◌≡◌, ◌≢◌, ◌⊎◌, ◌≤◌, inl, inr, false, IsTrue, get_or, arith, refl, sym, ap, ◌∙◌}
+use Rattle.std.proofs.lemmas.Bool.{both_ways}
 use Rattle.std.proofs.lemmas.Bool.Decides.{eqb_tells}
 use Rattle.model_accesses.specs.declared.kind.Kind.{Kind}
 use Rattle.model_accesses.specs.declared.kind.Kind.TheVariants.{Write, Bump, Read, Update, Put, Get}
 use Rattle.model_accesses.specs.declared.kind.Rule.TheVariants.{Race}
-use Rattle.model_accesses.specs.Table.{kinds, rule_between}
+use Rattle.model_accesses.specs.Table.{kinds, rule_between, is_memory_kind}
 use Rattle.access_table.proofs.Conflicts.{races_of_memory}
 use Rattle.shadow_history.specs.Witnesses.{place}
 use Rattle.shadow_history.specs.Laws.{PlaceLaw}
@@ -50,3 +51,14 @@ of-memory P new write bump read Read e = read e
 of-memory P new write bump read Update e = let memory = (races_of_memory Update new e).0 in absurd (cc)
 of-memory P new write bump read Put e = let memory = (races_of_memory Put new e).0 in absurd (cc)
 of-memory P new write bump read Get e = let memory = (races_of_memory Get new e).0 in absurd (cc)
+
+-- two accesses of one of these kinds do not race
+pub free-bumps : {A : Type 0} {kind : Kind} → kind ≡ Bump → rule_between Bump kind ≡ Race → A
+free-bumps is e = let free = rw is at e in absurd (cc)
+
+pub free-reads : {A : Type 0} {kind : Kind} → kind ≡ Read → rule_between Read kind ≡ Race → A
+free-reads is e = let free = rw is at e in absurd (cc)
+
+-- no access of memory is of another kind
+pub no-memory : {A : Type 0} {kind : Kind} (other : Kind) → is_memory_kind other ≡ false → kind ≡ other → IsTrue (is_memory_kind kind) → A
+no-memory other none is memory = absurd (both_ways _ none (rw is at memory))

@@ -1,5 +1,5 @@
 -- The latest parallel access of each kind, and the witness among them.
-use Rattle.std.proofs.Common.{◌≡◌, ◌⊎◌, ◌↔◌, ◌≤◌, inl, inr, ℕ, false, not, IsTrue, IsSome, Some, List, Contains, refl, sym, ap, ◌∙◌, subst}
+use Rattle.std.proofs.Common.{◌≡◌, ◌⊎◌, ◌↔◌, ◌≤◌, inl, inr, ℕ, false, not, IsTrue, IsSome, Option, Some, None, List, Contains, refl, sym, ap, ◌∙◌, subst}
 use Rattle.model_accesses.specs.declared.kind.Kind.{Kind}
 use Rattle.model_accesses.specs.declared.kind.Rule.TheVariants.{Race}
 use Rattle.model_accesses.specs.Table.{rule_between}
@@ -103,7 +103,10 @@ pub exact-found : (history : History) (accesses : List Access) (location : ℕ) 
     IsWitness history accesses location kind strand witness → IsSome (Some witness) ↔ ((access : Access) × Races history accesses location kind strand access)
 exact-found history accesses location kind strand witness is = (λ t. (access_of_witness location witness, is.races), λ t. refl)
 
-pub exact-none : (history : History) (accesses : List Access) (location : ℕ) (kind : Kind) (strand : ℕ) →
+pub exact-none : (history : History) (accesses : List Access) (location : ℕ) (kind : Kind) (strand : ℕ) (found : Option Witness) → found ≡ None →
     ((other : Kind) → rule_between other kind ≡ Race → NoneIsParallel history accesses location other strand) →
-    ((access : Access) × Races history accesses location kind strand access) → ⊥
-exact-none history accesses location kind strand none (access, races) = none access.kind races.2 access (races.0, races.1, refl) races.3
+    IsSome found ↔ ((access : Access) × Races history accesses location kind strand access)
+exact-none history accesses location kind strand found is none = (
+  λ t. absurd (let some = rw is at t in cc),
+  λ (access, races). absurd (none access.kind races.2 access (races.0, races.1, refl) races.3),
+)

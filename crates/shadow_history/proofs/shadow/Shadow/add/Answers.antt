@@ -1,5 +1,6 @@
 use Rattle.std.proofs.Common.{inl, refl}
-use Rattle.model_accesses.specs.declared.kind.Kind.TheVariants.{Write, Bump, Read}
+use Rattle.model_accesses.specs.declared.kind.Kind.TheVariants.{Write, Bump, Read, Update, Put, Get}
+use Rattle.shadow_history.proofs.SameKinds.{no-memory}
 use Rattle.shadow_history.proofs.Remembers.{begun-there, kept-there, remembers-added}
 use Rattle.shadow_history.proofs.shadow.Shadow.add.Goals.{in-Write, in-Bump, in-Read, in-Update, in-Put, in-Get}
 use Rattle.shadow_history.proofs.shadow.Shadow.add.Goals as goal
@@ -30,7 +31,7 @@ returns-clause-added g c history accesses follows remembers = elim c.match-kind.
       (w.add-in-Read.ensures.added history accesses c.args.location follows
       (kept-there _ _ c.self.view_is _ c.requires.in_range _ c.index_mut-cell.ensures.value history accesses remembers Read refl))
       w.add-in-Read.ensures.others remembers)
-  | in-Update w ↦ (let memory = rw w.in-Update.is at c.requires.memory in absurd (cc))
-  | in-Put w ↦ (let memory = rw w.in-Put.is at c.requires.memory in absurd (cc))
-  | in-Get w ↦ (let memory = rw w.in-Get.is at c.requires.memory in absurd (cc))
+  | in-Update w ↦ no-memory Update refl w.in-Update.is c.requires.memory
+  | in-Put w ↦ no-memory Put refl w.in-Put.is c.requires.memory
+  | in-Get w ↦ no-memory Get refl w.in-Get.is c.requires.memory
 ]
