@@ -38,6 +38,9 @@ insert-listing items item listing known other within =
 pub inserted-len : (items : List ℕ) (after item : ℕ) → IsListing items → after < length items → length (insert_behind after item items) ≡ length items + 1
 inserted-len items after item listing known = length-insert items (place_of after items + 1) item (omega (arith, listing after known))
 
+pub grown-len : (old : List ℕ) {new : List ℕ} (after item : ℕ) → IsListing old → after < length old → new ≡ insert_behind after item old → length new ≡ length old + 1
+grown-len old after item listing known is = rw is (inserted-len old after item listing known)
+
 -- an item that was put in is known
 pub inserted-known : {old begun one : List ℕ} {after first : ℕ} → IsListing begun → after < length old → begun ≡ old → first ≡ length begun → one ≡ insert_behind after first begun → first < length one
 inserted-known {old} {begun} {one} {after} {first} listing known same first_is one_is =

@@ -1,6 +1,6 @@
-use Rattle.std.proofs.Common.{◌≡◌, ◌+◌, ◌<◌, length, ap, arith}
+use Rattle.std.proofs.Common.{◌≡◌, ◌+◌, ◌<◌, length, arith}
 use Rattle.order_list.specs.Places.{items_along}
-use Rattle.order_list.proofs.Insertions.{inserted-len, two-len, next-inserted}
+use Rattle.order_list.proofs.Insertions.{grown-len, two-len, next-inserted}
 use Rattle.order_list.proofs.OrderList.insert_three.Goals as goal
 
 pub overflow_add-first : goal.overflow_add-first
@@ -31,8 +31,8 @@ returns-clause-len g c =
     let known : c.args.after < length (items_along list.places.items) = rw (← c.self.view_is) at c.requires.known in
     let first = c.insert_two-first.ensures.item in
     let two = two-len (items_along list.places.items) c.insert_two-first.result list.grouped.chain.listing known first (omega (arith, first, known)) c.insert_two-first.ensures.items in
-    let three = inserted-len _ (c.insert_two-first.result + 1) c.insert_reserved.result c.insert_two-first.new.self.grouped.chain.listing (omega (arith, first, two)) in
-    rw (← c.self.view_is) (omega (arith, ap length c.insert_reserved.ensures.items, three, two))
+    let three = grown-len _ (c.insert_two-first.result + 1) c.insert_reserved.result c.insert_two-first.new.self.grouped.chain.listing (omega (arith, first, two)) c.insert_reserved.ensures.items in
+    rw (← c.self.view_is) (omega (arith, three, two))
 
 pub returns-clause-few : goal.returns-clause-few
 returns-clause-few g c =

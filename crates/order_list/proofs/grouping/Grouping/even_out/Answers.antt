@@ -1,4 +1,4 @@
-use Rattle.std.proofs.Common.{◌≡◌, ◌<◌, length, get_or, arith}
+use Rattle.std.proofs.Common.{◌≡◌, ◌<◌, length, get_or, refl, arith}
 use Rattle.std.proofs.lemmas.List.{get_or_read, with_items_is}
 use Rattle.order_list.specs.Places.{groups_of}
 use Rattle.order_list.proofs.Halves.{evened, evened-behind}
@@ -25,3 +25,9 @@ returns-clause-room g c =
     let e = rw (c.deref_mut.ensures.value, first) at c.spread.ensures.evened in
     let room = evened-behind old.grouped c.place_at-group.result.group known c.spread.new.places c.count_from-count.result c.spread.result row e c.args.item c.requires (omega (arith, group)) in
     rw (with_items_is old.places c.spread.new.places (omega (arith, e.len, old.places.ok))) (record { fits = room.0; behind = rw e.nexts (room.1) })
+
+pub returns-clause-items : goal.returns-clause-items
+returns-clause-items g c =
+    let old = c.args.self.now in
+    let e = rw c.deref_mut.ensures.value at c.spread.ensures.evened in
+    rw (with_items_is old.places c.spread.new.places (omega (arith, e.len, old.places.ok)), e.nexts) refl

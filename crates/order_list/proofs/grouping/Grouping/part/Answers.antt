@@ -1,4 +1,4 @@
-use Rattle.std.proofs.Common.{◌≡◌, ◌≢◌, ◌<◌, ◌∙◌, length, get_or, sym, arith}
+use Rattle.std.proofs.Common.{◌≡◌, ◌≢◌, ◌<◌, ◌∙◌, length, get_or, refl, sym, arith}
 use Rattle.std.proofs.lemmas.List.{get_or_read, with_items_is}
 use Rattle.order_list.specs.Places.{groups_of}
 use Rattle.order_list.proofs.Parted.{parted}
@@ -16,3 +16,15 @@ invariant_of-self-clause-grouped g c =
     rw (with_items_is old.places c.spread.new.places (omega (arith, e.len, old.places.ok)), e.nexts, c.push_reserved.ensures.items, c.insert_reserved-behind.ensures.items, c.insert_reserved-behind.ensures.item)
     (parted old.grouped c.tail-begin.result.0 c.tail-begin.result.1 c.place_at-group.result.group c.tail-begin.ensures.row is c.spread.new.places c.spread.result _ other e
     (omega (arith, c.spread.ensures.some)) (omega arith) (omega (arith, c.reserved.ensures.few, c.reserved.ensures.value)))
+
+pub insert_reserved-behind-requires-clause-known : goal.insert_reserved-behind-requires-clause-known
+insert_reserved-behind-requires-clause-known g c =
+    let old = c.args.self.now in
+    let group = rw c.deref.ensures.value at c.place_at-group.ensures.group in
+    omega (arith, group, old.grouped.known c.args.item c.requires)
+
+pub returns-clause-items : goal.returns-clause-items
+returns-clause-items g c =
+    let old = c.args.self.now in
+    let e = rw c.deref_mut.ensures.value at c.spread.ensures.evened in
+    rw (with_items_is old.places c.spread.new.places (omega (arith, e.len, old.places.ok)), e.nexts) refl
