@@ -50,3 +50,9 @@ returns-clause-judged g c = (invariant_of-self-2 g c).kept.right.judged
 
 pub returns-clause-values : goal.returns-clause-values
 returns-clause-values g c = (invariant_of-self-2 g c).kept.right.memory
+
+pub returns-in_err-answer-clause-judged : goal.returns-in_err-answer-clause-judged
+returns-in_err-answer-clause-judged g c = (invariant_of-self-in_err-answer g c).kept.right.judged
+
+pub returns-in_err-answer-clause-values : goal.returns-in_err-answer-clause-values
+returns-in_err-answer-clause-values g c = (invariant_of-self-in_err-answer g c).kept.right.memory
