@@ -7,22 +7,21 @@ use Rattle.sarif_logs.specs.Accesses.{AccessParts, access_at}
 use Rattle.sarif_logs.specs.Related.{with_witness, with_parting, with_outstanding, with_links, related_of}
 
 -- the spawns and calls that led to an access, by its parts
-linked : (word access : List ℕ) (part whole : AccessParts) (before after told : List Data) → access ≡ word ++ part.word → part ≡ whole →
-    before ≡ after → told ≡ with_links access part.within before → told ≡ with_links (word ++ whole.word) whole.within after
-linked word access part whole before after told access_is same before_is is =
-    is ∙ (ap (λ (words : List ℕ). with_links words part.within before) access_is ∙
-    (ap (λ (one : AccessParts). with_links (word ++ one.word) one.within before) same ∙
-    ap (with_links (word ++ whole.word) whole.within) before_is))
+linked : (word : List ℕ) (part whole : AccessParts) (before after told : List Data) → part ≡ whole → before ≡ after →
+    told ≡ with_links (word ++ part.word) part.within before → told ≡ with_links (word ++ whole.word) whole.within after
+linked word part whole before after told same before_is is =
+    is ∙ (ap (λ (one : AccessParts). with_links (word ++ one.word) one.within before) same ∙
+    ap (with_links (word ++ whole.word) whole.within) before_is)
 
 -- all of them
-pub all_related : (race : Data) (refused witness : AccessParts) (this earlier : List ℕ) (found parting outstanding : Option Data)
+pub all_related : (race : Data) (refused witness : AccessParts) (found parting outstanding : Option Data)
     (begun one two three four five : List Data) → refused ≡ access_at (codes "refused") race → witness ≡ access_at (codes "witness") race →
-    this ≡ codes "this " ++ refused.word → earlier ≡ codes "the earlier " ++ witness.word → found ≡ object_at (codes "witness") race →
-    parting ≡ object_at (codes "parting") race → outstanding ≡ object_at (codes "outstanding") race → begun ≡ [] →
-    one ≡ with_witness found begun → two ≡ with_parting parting one → three ≡ with_outstanding outstanding two →
-    four ≡ with_links this refused.within three → five ≡ with_links earlier witness.within four → five ≡ related_of race
-all_related race refused witness this earlier found parting outstanding begun one two three four five refused_is witness_is this_is earlier_is
-    found_is parting_is outstanding_is none one_is two_is three_is four_is five_is =
-    linked (codes "the earlier ") earlier witness (access_at (codes "witness") race) four _ five earlier_is witness_is
-    (linked (codes "this ") this refused (access_at (codes "refused") race) three _ four this_is refused_is
+    found ≡ object_at (codes "witness") race → parting ≡ object_at (codes "parting") race →
+    outstanding ≡ object_at (codes "outstanding") race → begun ≡ [] → one ≡ with_witness found begun → two ≡ with_parting parting one →
+    three ≡ with_outstanding outstanding two → four ≡ with_links (codes "this " ++ refused.word) refused.within three →
+    five ≡ with_links (codes "the earlier " ++ witness.word) witness.within four → five ≡ related_of race
+all_related race refused witness found parting outstanding begun one two three four five refused_is witness_is found_is parting_is
+    outstanding_is none one_is two_is three_is four_is five_is =
+    linked (codes "the earlier ") witness (access_at (codes "witness") race) four _ five witness_is
+    (linked (codes "this ") refused (access_at (codes "refused") race) three _ four refused_is
     (three_is ∙ ap₂ with_outstanding outstanding_is (two_is ∙ ap₂ with_parting parting_is (one_is ∙ ap₂ with_witness found_is none))) four_is) five_is

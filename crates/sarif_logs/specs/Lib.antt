@@ -1,4 +1,5 @@
 pub mod Reading
+pub mod Objects
 pub mod Places
 pub mod PlaceViews
 pub mod Accesses

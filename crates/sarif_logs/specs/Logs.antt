@@ -2,6 +2,8 @@
 use Rattle.std.specs.Prelude.{ℕ, Bool, ◌||◌, List, [], ◌∷◌, ◌++◌, codes, decimal, map, if◌then◌else◌}
 use Rattle.serde_json.specs.Data.{Data, Members, boolean, string, array, object, item, no_items, member, no_members, put}
 use Rattle.serde_json.specs.View.{items_of}
+use Rattle.sarif_logs.specs.declared.log.Finding.{Finding}
+use Rattle.sarif_logs.specs.declared.log.Finding.TheVariants.{Warning, Race, Fault}
 use Rattle.sarif_logs.specs.Reading.{count_at, is_at, items_at, member_at}
 use Rattle.sarif_logs.specs.Places.{text_told}
 use Rattle.sarif_logs.specs.Rules.{rules_told}
@@ -9,14 +11,19 @@ use Rattle.sarif_logs.specs.Results.{race_result, warning_result, fault_result, 
 
 -- ---- results
 
+abbrev pub finding_result : Finding → Data → Data
+finding_result Warning told = warning_result told
+finding_result Race told = race_result told
+finding_result Fault told = fault_result told
+
 abbrev pub illegal_results : Data → List Data
 illegal_results told = if is_at (codes "outcome") (codes "illegal") told then illegal_result told ∷ [] else []
 
 -- of the warnings, the races, the faults and the illegal request that a record tells
 abbrev pub results_of : Data → List Data
 results_of told =
-    map warning_result (items_at (codes "warnings") told) ++ map race_result (items_at (codes "races") told) ++
-    map fault_result (items_at (codes "faults") told) ++ illegal_results told
+    map (finding_result Warning) (items_at (codes "warnings") told) ++ map (finding_result Race) (items_at (codes "races") told) ++
+    map (finding_result Fault) (items_at (codes "faults") told) ++ illegal_results told
 
 -- ---- the run
 

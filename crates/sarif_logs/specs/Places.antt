@@ -100,9 +100,12 @@ physical_at file None place = object (member (codes "artifactLocation") (artifac
 abbrev pub physical_told : (file : List ℕ) → PlaceParts → Data
 physical_told file place = physical_at file place.line place
 
+abbrev pub function_told : (function : List ℕ) → Data
+function_told function =
+    object (member (codes "kind") (string (codes "function")) (member (codes "name") (string function) no_members))
+
 abbrev pub functions_told : Option (List ℕ) → Data
-functions_told (Some function) =
-    array (item (object (member (codes "kind") (string (codes "function")) (member (codes "name") (string function) no_members))) no_items)
+functions_told (Some function) = array (item (function_told function) no_items)
 functions_told None = array no_items
 
 -- words, and behind them a place without a file

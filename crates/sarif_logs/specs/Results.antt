@@ -52,9 +52,16 @@ warning_result warning =
 
 -- ---- faults
 
+abbrev pub first_line : List ℕ → List ℕ
+first_line text = before_first (λ byte. byte == 10) text
+
+-- what stands in a line behind its first word
+abbrev pub behind_word : List ℕ → List ℕ
+behind_word line = after_first (λ byte. byte == 32) line
+
 -- the title of what a person is told: what stands in its first line behind the first word
 abbrev pub title_of : List ℕ → List ℕ
-title_of rendered = after_first (λ byte. byte == 32) (before_first (λ byte. byte == 10) rendered)
+title_of rendered = behind_word (first_line rendered)
 
 -- what a person is told, as a block of code of Markdown
 abbrev pub quoted : List ℕ → List ℕ
@@ -68,10 +75,14 @@ told_twice words rendered =
 abbrev pub fault_words : (rendered : List ℕ) → List ℕ
 fault_words rendered = title_of rendered ++ codes "."
 
+-- what a fault has that no other member of a result tells
+abbrev pub fault_properties : Data → Data
+fault_properties fault = object (member (codes "cause") (string (words_at (codes "cause") fault)) no_members)
+
 abbrev pub fault_result : Data → Data
 fault_result fault =
     result_told TextFault (told_twice (fault_words (words_at (codes "rendered") fault)) (words_at (codes "rendered") fault)) (place_of fault) []
-    (object (member (codes "cause") (string (words_at (codes "cause") fault)) no_members)) 1
+    (fault_properties fault) 1
 
 -- ---- an illegal request
 

@@ -109,10 +109,13 @@ is_named name rule = bytes_eq name (id rule)
 abbrev pub rule_named : (name : List ℕ) → Rule
 rule_named name = unwrap_or (find (is_named name) all_rules) DeterminacyRace
 
+abbrev pub level_told : Rule → Data
+level_told rule = object (member (codes "level") (string (level rule)) no_members)
+
 -- a rule as the log describes it
 abbrev pub rule_told : Rule → Data
 rule_told rule =
-    object (member (codes "defaultConfiguration") (object (member (codes "level") (string (level rule)) no_members))
+    object (member (codes "defaultConfiguration") (level_told rule)
     (member (codes "fullDescription") (text_told (description rule))
     (member (codes "help") (text_told (help rule))
     (member (codes "id") (string (id rule))

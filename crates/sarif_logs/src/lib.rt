@@ -7,6 +7,7 @@
 mod access;
 mod log;
 mod message;
+mod object;
 mod place;
 mod reading;
 mod related;

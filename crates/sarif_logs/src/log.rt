@@ -4,15 +4,15 @@ ghost use Rattle.std.specs.Prelude.{◌≡◌, ◌++◌, [], IfOk, OnOk, codes, 
 ghost use Rattle.serde_json.specs.View.{view, members_view};
 ghost use Rattle.sarif_logs.specs.Reading.{items_at};
 ghost use Rattle.sarif_logs.specs.Places.{text_told};
-ghost use Rattle.sarif_logs.specs.Results.{race_result, warning_result, fault_result};
-ghost use Rattle.sarif_logs.specs.Logs.{illegal_results, results_of, is_whole, cut_words, notes_of, invocation_told, picked, properties_told, tool_told, run_told, log_told};
+ghost use Rattle.sarif_logs.specs.Logs.{finding_result, illegal_results, results_of, is_whole, cut_words, cut_note, notes_of, invocation_told, picked, properties_told, tool_told, run_told, log_told};
 
+use crate::object::{Object, list_of_one};
 use crate::place::text_value;
 use crate::reading::{count_at, is_at, items_at, member_at};
 use crate::result::{fault_result, illegal_result, race_result, warning_result};
 use crate::rule::rules_value;
 use itoa::Buffer;
-use serde_json::{Map, Value, json, put};
+use serde_json::{Map, Value, put};
 use std::alloc::{AllocError, Global};
 
 /// The members of a record that are no results.
@@ -21,35 +21,35 @@ const PROPERTIES: &[&str] = &[
     "version", "warned",
 ];
 
-/// The results of warnings.
-fn warning_results(alloc: Global, warnings: &[Value]) -> Result<Vec<Value>, AllocError>
-    ensures { IfOk result (λ results. map view results.items ≡ map warning_result (map view warnings.now)) }
-{
-    let mut results = Vec::new(alloc);
-    for warning in warnings {
-        results.push(warning_result(alloc, warning)?)?;
-    }
-    Ok(results)
+/// What a list of a record tells.
+#[derive(Clone, Copy)]
+enum Finding {
+    /// Warnings of a program.
+    Warning,
+    /// Races.
+    Race,
+    /// Faults of a text.
+    Fault,
 }
 
-/// The results of races.
-fn race_results(alloc: Global, races: &[Value]) -> Result<Vec<Value>, AllocError>
-    ensures { IfOk result (λ results. map view results.items ≡ map race_result (map view races.now)) }
+/// The result of a finding.
+fn finding_result(alloc: Global, finding: Finding, told: &Value) -> Result<Value, AllocError>
+    ensures { IfOk result (λ value. view value ≡ finding_result finding (view told.now)) }
 {
-    let mut results = Vec::new(alloc);
-    for race in races {
-        results.push(race_result(alloc, race)?)?;
+    match finding {
+        Finding::Warning => warning_result(alloc, told),
+        Finding::Race => race_result(alloc, told),
+        Finding::Fault => fault_result(alloc, told),
     }
-    Ok(results)
 }
 
-/// The results of faults.
-fn fault_results(alloc: Global, faults: &[Value]) -> Result<Vec<Value>, AllocError>
-    ensures { IfOk result (λ results. map view results.items ≡ map fault_result (map view faults.now)) }
+/// The results of findings.
+fn finding_results(alloc: Global, finding: Finding, all: &[Value]) -> Result<Vec<Value>, AllocError>
+    ensures { IfOk result (λ results. map view results.items ≡ map (finding_result finding) (map view all.now)) }
 {
     let mut results = Vec::new(alloc);
-    for fault in faults {
-        results.push(fault_result(alloc, fault)?)?;
+    for told in all {
+        results.push(finding_result(alloc, finding, told)?)?;
     }
     Ok(results)
 }
@@ -76,10 +76,10 @@ fn push_illegal(alloc: Global, results: &mut Vec<Value>, document: &Value) -> Re
 fn result_values(alloc: Global, document: &Value) -> Result<Vec<Value>, AllocError>
     ensures { IfOk result (λ results. map view results.items ≡ results_of (view document.now)) }
 {
-    let mut results = warning_results(alloc, items_at(document, "warnings"))?;
-    let races = race_results(alloc, items_at(document, "races"))?;
+    let mut results = finding_results(alloc, Finding::Warning, items_at(document, "warnings"))?;
+    let races = finding_results(alloc, Finding::Race, items_at(document, "races"))?;
     push_all(&mut results, races)?;
-    let faults = fault_results(alloc, items_at(document, "faults"))?;
+    let faults = finding_results(alloc, Finding::Fault, items_at(document, "faults"))?;
     push_all(&mut results, faults)?;
     push_illegal(alloc, &mut results, document)?;
     Ok(results)
@@ -96,10 +96,24 @@ fn is_whole(document: &Value) -> bool
 fn cut_message(alloc: Global, requests: u64) -> Result<Value, AllocError>
     ensures { IfOk result (λ value. view value ≡ text_told (cut_words requests)) }
 {
-    let mut words = String::from_str(alloc, "The limit ended the run after ")?;
-    words.push_str(Buffer::new().format(requests))?;
-    words.push_str(" requests, and there may be more to tell.")?;
+    let mut buffer = Buffer::new();
+    let words = [
+        "The limit ended the run after ",
+        buffer.format(requests),
+        " requests, and there may be more to tell.",
+    ]
+    .concat(alloc)?;
     text_value(alloc, words.as_str())
+}
+
+/// The note that the limit ended a run.
+fn cut_note(alloc: Global, document: &Value) -> Result<Value, AllocError>
+    ensures { IfOk result (λ value. view value ≡ cut_note (view document.now)) }
+{
+    let message = cut_message(alloc, count_at(document, "requests"))?;
+    Object::new(alloc)
+        .with_text("level", "warning")?
+        .with_last("message", message)
 }
 
 /// What is noted of the run itself: that the limit ended it.
@@ -107,22 +121,19 @@ fn notes_value(alloc: Global, document: &Value) -> Result<Value, AllocError>
     ensures { IfOk result (λ value. view value ≡ notes_of (view document.now)) }
 {
     if !is_at(document, "outcome", "unfinished") {
-        return json!(in alloc; []);
+        return Ok(Value::Array(Vec::new(alloc)));
     }
-    json!(in alloc; [{
-        "level": "warning",
-        "message": cut_message(alloc, count_at(document, "requests"))?
-    }])
+    list_of_one(alloc, cut_note(alloc, document)?)
 }
 
 /// How the run came out.
 fn invocation_value(alloc: Global, document: &Value) -> Result<Value, AllocError>
     ensures { IfOk result (λ value. view value ≡ invocation_told (view document.now)) }
 {
-    json!(in alloc; {
-        "executionSuccessful": is_whole(document),
-        "toolExecutionNotifications": notes_value(alloc, document)?
-    })
+    let notes = notes_value(alloc, document)?;
+    Object::new(alloc)
+        .with("executionSuccessful", Value::from(is_whole(document)))?
+        .with_last("toolExecutionNotifications", notes)
 }
 
 /// Adds the members of a record that have these keys.
@@ -155,19 +166,23 @@ fn properties_value(alloc: Global, document: &Value) -> Result<Value, AllocError
 fn tool_value(alloc: Global) -> Result<Value, AllocError>
     ensures { IfOk result (λ value. view value ≡ tool_told) }
 {
-    json!(in alloc; {"driver": {"name": "cilkcheck", "rules": rules_value(alloc)?}})
+    let rules = rules_value(alloc)?;
+    let driver = Object::new(alloc)
+        .with_text("name", "cilkcheck")?
+        .with_last("rules", rules)?;
+    Object::new(alloc).with_last("driver", driver)
 }
 
 /// The one run of a log.
 fn run_value(alloc: Global, document: &Value) -> Result<Value, AllocError>
     ensures { IfOk result (λ value. view value ≡ run_told (view document.now)) }
 {
-    json!(in alloc; {
-        "invocations": [invocation_value(alloc, document)?],
-        "properties": properties_value(alloc, document)?,
-        "results": result_values(alloc, document)?,
-        "tool": tool_value(alloc)?
-    })
+    let invocations = list_of_one(alloc, invocation_value(alloc, document)?)?;
+    Object::new(alloc)
+        .with("invocations", invocations)?
+        .with("properties", properties_value(alloc, document)?)?
+        .with("results", Value::Array(result_values(alloc, document)?))?
+        .with_last("tool", tool_value(alloc)?)
 }
 
 /// The log in SARIF 2.1.0 of a record, which is a JSON object of the shape that `explain --format json` prints: a result for each of its
@@ -175,9 +190,9 @@ fn run_value(alloc: Global, document: &Value) -> Result<Value, AllocError>
 pub fn log_value(alloc: Global, document: &Value) -> Result<Value, AllocError>
     ensures { IfOk result (λ log. view log ≡ log_told (view document.now)) }
 {
-    json!(in alloc; {
-        "$schema": "https://json.schemastore.org/sarif-2.1.0.json",
-        "runs": [run_value(alloc, document)?],
-        "version": "2.1.0"
-    })
+    let runs = list_of_one(alloc, run_value(alloc, document)?)?;
+    Object::new(alloc)
+        .with_text("$schema", "https://json.schemastore.org/sarif-2.1.0.json")?
+        .with_text("version", "2.1.0")?
+        .with_last("runs", runs)
 }

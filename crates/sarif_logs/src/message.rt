@@ -15,13 +15,25 @@ use itoa::Buffer;
 use serde_json::Value;
 use std::alloc::{AllocError, Global};
 
+/// Adds words behind others.
+pub(crate) fn push_three(
+    text: &mut String,
+    first: &str,
+    second: &str,
+    third: &str,
+) -> Result<(), AllocError>
+    ensures { OnOk result (string_bytes text.new ≡ string_bytes text.old ++ first.now ++ second.now ++ third.now) }
+{
+    text.push_str(first)?;
+    text.push_str(second)?;
+    text.push_str(third)
+}
+
 /// Adds a name.
 fn push_name(text: &mut String, name: &Value) -> Result<(), AllocError>
     ensures { OnOk result (string_bytes text.new ≡ string_bytes text.old ++ name_words (view name.now)) }
 {
-    text.push_str("`")?;
-    text.push_str(name.as_str().unwrap_or(""))?;
-    text.push_str("`")
+    push_three(text, "`", name.as_str().unwrap_or(""), "`")
 }
 
 /// Adds how many other names there are.
@@ -53,9 +65,7 @@ fn push_names(text: &mut String, names: &[Value]) -> Result<(), AllocError>
 fn push_refused(text: &mut String, refused: &Access<'_>, names: &[Value]) -> Result<(), AllocError>
     ensures { OnOk result (string_bytes text.new ≡ string_bytes text.old ++ refused_words (access_parts refused.now) (map view names.now)) }
 {
-    text.push_str("This ")?;
-    text.push_str(refused.word)?;
-    text.push_str(" of ")?;
+    push_three(text, "This ", refused.word, " of ")?;
     push_names(text, names)?;
     push_function(text, &refused.place)
 }
@@ -64,9 +74,7 @@ fn push_refused(text: &mut String, refused: &Access<'_>, names: &[Value]) -> Res
 fn push_witness(text: &mut String, witness: &Access<'_>) -> Result<(), AllocError>
     ensures { OnOk result (string_bytes text.new ≡ string_bytes text.old ++ witness_words (access_parts witness.now)) }
 {
-    text.push_str("[")?;
-    text.push_str(witness.word)?;
-    text.push_str("](1)")?;
+    push_three(text, "[", witness.word, "](1)")?;
     push_function(text, &witness.place)?;
     text.push_str(" at ")?;
     push_place(text, &witness.place)
@@ -120,11 +128,7 @@ pub(crate) fn push_help(text: &mut String, help: Option<&str>) -> Result<(), All
     ensures { OnOk result (string_bytes text.new ≡ string_bytes text.old ++ help_words (option_map (λ help. help.now) help.entry)) }
 {
     match help {
-        Some(help) => {
-            text.push_str(" Help: ")?;
-            text.push_str(help)?;
-            text.push_str(".")
-        }
+        Some(help) => push_three(text, " Help: ", help, "."),
         None => Ok(()),
     }
 }

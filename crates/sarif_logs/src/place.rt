@@ -1,16 +1,20 @@
 //! Places of a record as locations of a log.
 
-ghost use Rattle.std.specs.Prelude.{◌≡◌, ◌++◌, IfOk, OnOk, Some, None, decimal, map, string_bytes};
+ghost use Rattle.std.specs.Prelude.{◌≡◌, ◌++◌, IfOk, OnOk, Some, None, codes, decimal, map, string_bytes};
 ghost use Rattle.std.specs.Option.{option_map};
+ghost use Rattle.serde_json.specs.Data.{array, item, no_items, member, no_members};
 ghost use Rattle.serde_json.specs.View.{view};
-ghost use Rattle.sarif_logs.specs.Places.{place_of, place_at, nowhere, scheme, uri, text_told, region_told, physical_told, functions_told};
+ghost use Rattle.sarif_logs.specs.Places.{place_of, place_at, nowhere, scheme, uri, text_told, count_told, region_told, artifact_told, physical_told, function_told, functions_told};
 ghost use Rattle.sarif_logs.specs.Places.{column_words, line_words, place_words, in_function, location_told, related_told, noted_words};
+ghost use Rattle.sarif_logs.specs.Objects.{members_of};
 ghost use Rattle.sarif_logs.specs.PlaceViews.{place_parts};
 
+use crate::message::push_three;
+use crate::object::{Object, list_of_one};
 use crate::reading::{number_at, object_at, text_at};
 use itoa::Buffer;
 use percent_encoding::{AsciiSet, NON_ALPHANUMERIC, ascii_set, utf8_percent_encode};
-use serde_json::{Value, json};
+use serde_json::Value;
 use std::alloc::{AllocError, Global};
 
 /// The ASCII bytes that the path of a URI does not hold as they are: all but letters, digits, `-`, `.`, `_`, `~` and `/`. A colon is one of
@@ -86,7 +90,18 @@ fn uri(alloc: Global, name: &str) -> Result<String, AllocError>
 pub(crate) fn text_value(alloc: Global, text: &str) -> Result<Value, AllocError>
     ensures { IfOk result (λ value. view value ≡ text_told text.now) }
 {
-    json!(in alloc; {"text": text})
+    let text = Value::try_from_str(alloc, text)?;
+    Object::new(alloc).with_last("text", text)
+}
+
+/// The part of a region that says from where on it is.
+fn begin_region(alloc: Global, line: u64, column: u64) -> Result<Object, AllocError>
+    ensures { IfOk result (λ region. members_of region ≡
+        member (codes "startColumn") (count_told column) (member (codes "startLine") (count_told line) no_members)) }
+{
+    Object::new(alloc)
+        .with("startLine", Value::from(line))?
+        .with("startColumn", Value::from(column))
 }
 
 /// The part of a file: a line, from a column on where it is known.
@@ -99,33 +114,52 @@ fn region_value(
     ensures { IfOk result (λ value. view value ≡ region_told line column (option_map (λ code. code.now) code.entry)) }
 {
     match (code, column) {
-        (Some(code), Some(column)) => {
-            json!(in alloc; {
-                "snippet": text_value(alloc, code)?,
-                "startColumn": column,
-                "startLine": line
-            })
-        }
-        (Some(code), None) => {
-            json!(in alloc; {"snippet": text_value(alloc, code)?, "startLine": line})
-        }
-        (None, Some(column)) => json!(in alloc; {"startColumn": column, "startLine": line}),
-        (None, None) => json!(in alloc; {"startLine": line}),
+        (Some(code), Some(column)) => begin_region(alloc, line, column)?.with_last(
+            "snippet",
+            text_value(alloc, code)?,
+        ),
+        (Some(code), None) => Object::new(alloc)
+            .with("startLine", Value::from(line))?
+            .with_last("snippet", text_value(alloc, code)?),
+        (None, Some(column)) => Object::new(alloc)
+            .with("startLine", Value::from(line))?
+            .with_last("startColumn", Value::from(column)),
+        (None, None) => Object::new(alloc).with_last("startLine", Value::from(line)),
     }
+}
+
+/// Where a file is.
+fn artifact_value(alloc: Global, file: &str) -> Result<Value, AllocError>
+    ensures { IfOk result (λ value. view value ≡ artifact_told file.now) }
+{
+    let uri = Value::from(uri(alloc, file)?);
+    Object::new(alloc).with_last("uri", uri)
 }
 
 /// A file and the part of it, where its line is known.
 fn physical_value(alloc: Global, file: &str, place: &Place<'_>) -> Result<Value, AllocError>
     ensures { IfOk result (λ value. view value ≡ physical_told file.now (place_parts place.now)) }
 {
-    let uri = uri(alloc, file)?;
+    let artifact = artifact_value(alloc, file)?;
     match place.line {
-        Some(line) => json!(in alloc; {
-            "artifactLocation": {"uri": uri},
-            "region": region_value(alloc, line, place.column, place.code)?
-        }),
-        None => json!(in alloc; {"artifactLocation": {"uri": uri}}),
+        Some(line) => Object::new(alloc)
+            .with("artifactLocation", artifact)?
+            .with_last(
+                "region",
+                region_value(alloc, line, place.column, place.code)?,
+            ),
+        None => Object::new(alloc).with_last("artifactLocation", artifact),
     }
+}
+
+/// A function as a logical location.
+fn function_value(alloc: Global, function: &str) -> Result<Value, AllocError>
+    ensures { IfOk result (λ value. view value ≡ function_told function.now) }
+{
+    let name = Value::try_from_str(alloc, function)?;
+    Object::new(alloc)
+        .with_text("kind", "function")?
+        .with_last("name", name)
 }
 
 /// The function of a place, where it is known.
@@ -133,8 +167,8 @@ fn functions_value(alloc: Global, function: Option<&str>) -> Result<Value, Alloc
     ensures { IfOk result (λ value. view value ≡ functions_told (option_map (λ function. function.now) function.entry)) }
 {
     match function {
-        Some(function) => json!(in alloc; [{"kind": "function", "name": function}]),
-        None => json!(in alloc; []),
+        Some(function) => list_of_one(alloc, function_value(alloc, function)?),
+        None => Ok(Value::Array(Vec::new(alloc))),
     }
 }
 
@@ -183,11 +217,7 @@ pub(crate) fn push_function(text: &mut String, place: &Place<'_>) -> Result<(), 
     ensures { OnOk result (string_bytes text.new ≡ string_bytes text.old ++ in_function (place_parts place.now).function) }
 {
     match place.function {
-        Some(function) => {
-            text.push_str(" in `")?;
-            text.push_str(function)?;
-            text.push_str("`")
-        }
+        Some(function) => push_three(text, " in `", function, "`"),
         None => Ok(()),
     }
 }
@@ -212,20 +242,32 @@ fn place_message(alloc: Global, place: &Place<'_>) -> Result<Value, AllocError>
     text_value(alloc, words.as_str())
 }
 
+/// The part of a location that related ones have too.
+fn begin_location(alloc: Global, place: &Place<'_>) -> Result<Object, AllocError>
+    ensures { IfOk result (λ location. members_of location ≡ member (codes "logicalLocations") (functions_told (place_parts place.now).function) no_members) }
+{
+    let functions = functions_value(alloc, place.function)?;
+    Object::new(alloc).with("logicalLocations", functions)
+}
+
 /// A place as the location of a result. One without a file has no physical location, and a message in its place.
-pub(crate) fn location_value(alloc: Global, place: &Place<'_>) -> Result<Value, AllocError>
+fn location_value(alloc: Global, place: &Place<'_>) -> Result<Value, AllocError>
     ensures { IfOk result (λ value. view value ≡ location_told (place_parts place.now)) }
 {
     match place.file {
-        Some(file) => json!(in alloc; {
-            "logicalLocations": functions_value(alloc, place.function)?,
-            "physicalLocation": physical_value(alloc, file, place)?
-        }),
-        None => json!(in alloc; {
-            "logicalLocations": functions_value(alloc, place.function)?,
-            "message": place_message(alloc, place)?
-        }),
+        Some(file) => begin_location(alloc, place)?.with_last(
+            "physicalLocation",
+            physical_value(alloc, file, place)?,
+        ),
+        None => { begin_location(alloc, place)?.with_last("message", place_message(alloc, place)?) }
     }
+}
+
+/// The one location of a result.
+pub(crate) fn locations_value(alloc: Global, place: &Place<'_>) -> Result<Value, AllocError>
+    ensures { IfOk result (λ value. view value ≡ array (item (location_told (place_parts place.now)) no_items)) }
+{
+    list_of_one(alloc, location_value(alloc, place)?)
 }
 
 /// A place as a related location, with a number by which messages link to it.
@@ -238,16 +280,12 @@ pub(crate) fn related_value(
     ensures { IfOk result (λ value. view value ≡ related_told number words.now (place_parts place.now)) }
 {
     match place.file {
-        Some(file) => json!(in alloc; {
-            "id": number,
-            "logicalLocations": functions_value(alloc, place.function)?,
-            "message": text_value(alloc, words)?,
-            "physicalLocation": physical_value(alloc, file, place)?
-        }),
-        None => json!(in alloc; {
-            "id": number,
-            "logicalLocations": functions_value(alloc, place.function)?,
-            "message": noted_message(alloc, words, place)?
-        }),
+        Some(file) => begin_location(alloc, place)?
+            .with("id", Value::from(number))?
+            .with("message", text_value(alloc, words)?)?
+            .with_last("physicalLocation", physical_value(alloc, file, place)?),
+        None => begin_location(alloc, place)?
+            .with("id", Value::from(number))?
+            .with_last("message", noted_message(alloc, words, place)?),
     }
 }

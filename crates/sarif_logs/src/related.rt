@@ -3,11 +3,12 @@
 ghost use Rattle.std.specs.Prelude.{◌≡◌, ◌++◌, [], IfOk, OnOk, codes, map, string_bytes};
 ghost use Rattle.std.specs.Option.{option_map};
 ghost use Rattle.serde_json.specs.View.{view};
+ghost use Rattle.sarif_logs.specs.AccessViews.{access_parts};
 ghost use Rattle.sarif_logs.specs.PlaceViews.{place_parts};
 ghost use Rattle.sarif_logs.specs.Related.{with_related, parting_words, outstanding_words, link_words, with_witness, with_parting, with_outstanding};
 ghost use Rattle.sarif_logs.specs.Related.{with_links, related_of};
 
-use crate::access::access_at;
+use crate::access::{Access, access_at};
 use crate::place::{Place, place_at, push_place, related_value};
 use crate::reading::{object_at, words_at};
 use serde_json::Value;
@@ -25,15 +26,6 @@ fn push_related(
     let value = related_value(alloc, related.len() + 1, words, place)?;
     related.push(value)?;
     Ok(())
-}
-
-/// Two words, one behind the other.
-fn joined(alloc: Global, first: &str, second: &str) -> Result<String, AllocError>
-    ensures { IfOk result (λ words. string_bytes words ≡ first.now ++ second.now) }
-{
-    let mut words = String::from_str(alloc, first)?;
-    words.push_str(second)?;
-    Ok(words)
 }
 
 /// What is said of the spawn where two accesses part.
@@ -79,7 +71,7 @@ fn push_witness(
     let Some(witness) = witness else {
         return Ok(());
     };
-    let words = joined(alloc, "the earlier ", words_at(witness, "word"))?;
+    let words = ["the earlier ", words_at(witness, "word")].concat(alloc)?;
     push_related(alloc, related, words.as_str(), &place_at(witness, "place"))
 }
 
@@ -135,19 +127,34 @@ fn push_links(
     push_links(alloc, related, access, rest)
 }
 
+/// Adds the spawns and calls that led to one of two accesses, which these words tell from the other.
+fn push_way(
+    alloc: Global,
+    related: &mut Vec<Value>,
+    which: &str,
+    access: &Access<'_>,
+) -> Result<(), AllocError>
+    ensures { OnOk result (map view related.new.items ≡
+        with_links (which.now ++ (access_parts access.now).word) (access_parts access.now).within (map view related.old.items)) }
+{
+    let words = [which, access.word].concat(alloc)?;
+    push_links(alloc, related, words.as_str(), access.within)
+}
+
 /// The related locations of a race. The earlier access is the first, the spawn where the two part the second.
 pub(crate) fn related_values(alloc: Global, race: &Value) -> Result<Vec<Value>, AllocError>
     ensures { IfOk result (λ values. map view values.items ≡ related_of (view race.now)) }
 {
-    let refused = access_at(race, "refused");
-    let witness = access_at(race, "witness");
     let mut related = Vec::new(alloc);
     push_witness(alloc, &mut related, object_at(race, "witness"))?;
     push_parting(alloc, &mut related, object_at(race, "parting"))?;
     push_outstanding(alloc, &mut related, object_at(race, "outstanding"))?;
-    let this = joined(alloc, "this ", refused.word)?;
-    push_links(alloc, &mut related, this.as_str(), refused.within)?;
-    let earlier = joined(alloc, "the earlier ", witness.word)?;
-    push_links(alloc, &mut related, earlier.as_str(), witness.within)?;
+    push_way(alloc, &mut related, "this ", &access_at(race, "refused"))?;
+    push_way(
+        alloc,
+        &mut related,
+        "the earlier ",
+        &access_at(race, "witness"),
+    )?;
     Ok(related)
 }

@@ -5,16 +5,17 @@ ghost use Rattle.serde_json.specs.View.{view};
 ghost use Rattle.sarif_logs.specs.Reading.{words_at};
 ghost use Rattle.sarif_logs.specs.Places.{text_told};
 ghost use Rattle.sarif_logs.specs.PlaceViews.{place_parts};
-ghost use Rattle.sarif_logs.specs.Results.{result_told, race_properties, race_result, warning_words, warning_result, title_of, quoted, told_twice, fault_words, fault_result};
-ghost use Rattle.sarif_logs.specs.Results.{illegal_words, illegal_result};
+ghost use Rattle.sarif_logs.specs.Results.{result_told, race_properties, race_result, warning_words, warning_result, first_line, behind_word, title_of, quoted, told_twice, fault_words, fault_properties, fault_result};
+ghost use Rattle.sarif_logs.specs.Results.{illegal_words, illegal_properties, illegal_result};
 
 use crate::access::access_at;
 use crate::message::{push_help, race_message};
-use crate::place::{Place, location_value, place_at, place_of, text_value};
+use crate::object::Object;
+use crate::place::{Place, locations_value, place_at, place_of, text_value};
 use crate::reading::{count_at, member_at, text_at, words_at};
 use crate::related::related_values;
 use crate::rule::Rule;
-use serde_json::{Value, json};
+use serde_json::{Map, Value};
 use std::alloc::{AllocError, Global};
 
 /// A result.
@@ -30,30 +31,34 @@ fn result_value(
     ensures { IfOk result (λ value. view value ≡ result_told rule (view message) (place_parts place.now) (map view related.items) (view properties) times) }
 {
     // The given values go in first: fewer are left to drop where a later step fails.
-    json!(in alloc; {
-        "message": message,
-        "properties": properties,
-        "relatedLocations": related,
-        "level": rule.level(),
-        "locations": [location_value(alloc, place)?],
-        "occurrenceCount": times,
-        "ruleId": rule.id(),
-        "ruleIndex": rule.number()
-    })
+    Object::new(alloc)
+        .with("message", message)?
+        .with("properties", properties)?
+        .with("relatedLocations", Value::Array(related))?
+        .with("locations", locations_value(alloc, place)?)?
+        .with("occurrenceCount", Value::from(times))?
+        .with_text("level", rule.level())?
+        .with_text("ruleId", rule.id())?
+        .with_last("ruleIndex", Value::from(rule.number()))
 }
 
 /// What a race has that no other member of a result tells.
 fn race_properties(alloc: Global, race: &Value) -> Result<Value, AllocError>
     ensures { IfOk result (λ value. view value ≡ race_properties (view race.now)) }
 {
-    json!(in alloc; {
-        "group": count_at(race, "group"),
-        "kind": words_at(race, "kind"),
-        "locations": member_at(alloc, race, "locations")?,
-        "refusedFurther": access_at(race, "refused").further,
-        "spawnLine": member_at(alloc, race, "spawn_line")?,
-        "witnessFurther": access_at(race, "witness").further
-    })
+    Object::new(alloc)
+        .with("group", Value::from(count_at(race, "group")))?
+        .with_text("kind", words_at(race, "kind"))?
+        .with("locations", member_at(alloc, race, "locations")?)?
+        .with(
+            "refusedFurther",
+            Value::from(access_at(race, "refused").further),
+        )?
+        .with("spawnLine", member_at(alloc, race, "spawn_line")?)?
+        .with_last(
+            "witnessFurther",
+            Value::from(access_at(race, "witness").further),
+        )
 }
 
 /// The result of a race.
@@ -78,8 +83,7 @@ pub(crate) fn race_result(alloc: Global, race: &Value) -> Result<Value, AllocErr
 fn warning_message(alloc: Global, warning: &Value) -> Result<Value, AllocError>
     ensures { IfOk result (λ value. view value ≡ text_told (warning_words (view warning.now))) }
 {
-    let mut words = String::from_str(alloc, words_at(warning, "message"))?;
-    words.push_str(".")?;
+    let words = [words_at(warning, "message"), "."].concat(alloc)?;
     text_value(alloc, words.as_str())
 }
 
@@ -88,7 +92,7 @@ pub(crate) fn warning_result(alloc: Global, warning: &Value) -> Result<Value, Al
     ensures { IfOk result (λ value. view value ≡ warning_result (view warning.now)) }
 {
     let message = warning_message(alloc, warning)?;
-    let properties = json!(in alloc; {})?;
+    let properties = Value::Object(Map::new(alloc));
     result_value(
         alloc,
         Rule::named(words_at(warning, "rule")),
@@ -100,44 +104,64 @@ pub(crate) fn warning_result(alloc: Global, warning: &Value) -> Result<Value, Al
     )
 }
 
+/// The first line of a text.
+fn first_line(text: &str) -> &str
+    ensures { result.now ≡ first_line text.now }
+{
+    match text.split_once('\n') {
+        Some((line, _)) => line,
+        None => text,
+    }
+}
+
+/// What stands in a line behind its first word.
+fn behind_word(line: &str) -> &str
+    ensures { result.now ≡ behind_word line.now }
+{
+    match line.split_once(' ') {
+        Some((_, behind)) => behind,
+        None => "",
+    }
+}
+
 /// The title of what a person is told of a fault: what stands in its first line behind the first word.
 fn title_of(rendered: &str) -> &str
     ensures { result.now ≡ title_of rendered.now }
 {
-    let line = match rendered.split_once('\n') {
-        Some((line, _)) => line,
-        None => rendered,
-    };
-    match line.split_once(' ') {
-        Some((_, title)) => title,
-        None => "",
-    }
+    behind_word(first_line(rendered))
 }
 
 /// What a person is told, as a block of code of Markdown.
 fn quoted(alloc: Global, rendered: &str) -> Result<String, AllocError>
     ensures { IfOk result (λ text. string_bytes text ≡ quoted rendered.now) }
 {
-    let mut text = String::from_str(alloc, "```\n")?;
-    text.push_str(rendered)?;
-    text.push_str("```")?;
-    Ok(text)
+    ["```\n", rendered, "```"].concat(alloc)
 }
 
 /// A message in words, and as a person is told it.
 fn told_twice(alloc: Global, words: &str, rendered: &str) -> Result<Value, AllocError>
     ensures { IfOk result (λ value. view value ≡ told_twice words.now rendered.now) }
 {
-    json!(in alloc; {"markdown": quoted(alloc, rendered)?, "text": words})
+    let markdown = Value::from(quoted(alloc, rendered)?);
+    Object::new(alloc)
+        .with_text("text", words)?
+        .with_last("markdown", markdown)
 }
 
 /// The message of a fault: its title as a sentence, and as a person is told it.
 fn fault_message(alloc: Global, rendered: &str) -> Result<Value, AllocError>
     ensures { IfOk result (λ value. view value ≡ told_twice (fault_words rendered.now) rendered.now) }
 {
-    let mut words = String::from_str(alloc, title_of(rendered))?;
-    words.push_str(".")?;
+    let words = [title_of(rendered), "."].concat(alloc)?;
     told_twice(alloc, words.as_str(), rendered)
+}
+
+/// What a fault has that no other member of a result tells.
+fn fault_properties(alloc: Global, fault: &Value) -> Result<Value, AllocError>
+    ensures { IfOk result (λ value. view value ≡ fault_properties (view fault.now)) }
+{
+    let cause = Value::try_from_str(alloc, words_at(fault, "cause"))?;
+    Object::new(alloc).with_last("cause", cause)
 }
 
 /// The result of a fault of a text.
@@ -145,7 +169,7 @@ pub(crate) fn fault_result(alloc: Global, fault: &Value) -> Result<Value, AllocE
     ensures { IfOk result (λ value. view value ≡ fault_result (view fault.now)) }
 {
     let message = fault_message(alloc, words_at(fault, "rendered"))?;
-    let properties = json!(in alloc; {"cause": words_at(fault, "cause")})?;
+    let properties = fault_properties(alloc, fault)?;
     result_value(
         alloc,
         Rule::TextFault,
@@ -162,10 +186,18 @@ fn illegal_message(alloc: Global, request: &Value) -> Result<Value, AllocError>
     ensures { IfOk result (λ value. view value ≡
         told_twice (illegal_words (view request.now)) (words_at (codes "rendered") (view request.now))) }
 {
-    let mut words = String::from_str(alloc, words_at(request, "message"))?;
-    words.push_str(".")?;
+    let mut words = [words_at(request, "message"), "."].concat(alloc)?;
     push_help(&mut words, text_at(request, "help"))?;
     told_twice(alloc, words.as_str(), words_at(request, "rendered"))
+}
+
+/// What an illegal request has that no other member of a result tells.
+fn illegal_properties(alloc: Global, request: &Value) -> Result<Value, AllocError>
+    ensures { IfOk result (λ value. view value ≡ illegal_properties (view request.now)) }
+{
+    Object::new(alloc)
+        .with("request", Value::from(count_at(request, "request")))?
+        .with_last("strand", Value::from(count_at(request, "strand")))
 }
 
 /// The result of an illegal request.
@@ -173,10 +205,7 @@ pub(crate) fn illegal_result(alloc: Global, request: &Value) -> Result<Value, Al
     ensures { IfOk result (λ value. view value ≡ illegal_result (view request.now)) }
 {
     let message = illegal_message(alloc, request)?;
-    let properties = json!(in alloc; {
-        "request": count_at(request, "request"),
-        "strand": count_at(request, "strand")
-    })?;
+    let properties = illegal_properties(alloc, request)?;
     result_value(
         alloc,
         Rule::IllegalRequest,

@@ -3,14 +3,15 @@
 ghost use Rattle.std.specs.Prelude.{◌≡◌, IfOk, map};
 ghost use Rattle.std.specs.List.{find};
 ghost use Rattle.serde_json.specs.View.{view};
-ghost use Rattle.sarif_logs.specs.Rules.{id, name, summary, description, help, level, number, all_rules, rule_told, rules_told, rule_named, is_named};
+ghost use Rattle.sarif_logs.specs.Rules.{id, name, summary, description, help, level, number, all_rules, level_told, rule_told, rules_told, rule_named, is_named};
 
+use crate::object::Object;
 use crate::place::text_value;
-use serde_json::{Value, json};
+use serde_json::Value;
 use std::alloc::{AllocError, Global};
 
 /// A rule that a result may name.
-#[derive(Clone, Copy, Debug, PartialEq, Eq)]
+#[derive(Clone, Copy)]
 pub(crate) enum Rule {
     /// Two accesses of a cell may run in either order.
     DeterminacyRace,
@@ -210,18 +211,25 @@ fn first_named(rules: &[Rule], id: &str) -> Option<Rule>
     None
 }
 
+/// How bad it is that a rule is broken.
+fn level_value(alloc: Global, rule: Rule) -> Result<Value, AllocError>
+    ensures { IfOk result (λ value. view value ≡ level_told rule) }
+{
+    let level = Value::try_from_str(alloc, rule.level())?;
+    Object::new(alloc).with_last("level", level)
+}
+
 /// A rule as the log describes it.
 fn rule_value(alloc: Global, rule: Rule) -> Result<Value, AllocError>
     ensures { IfOk result (λ value. view value ≡ rule_told rule) }
 {
-    json!(in alloc; {
-        "defaultConfiguration": {"level": rule.level()},
-        "fullDescription": text_value(alloc, rule.description())?,
-        "help": text_value(alloc, rule.help())?,
-        "id": rule.id(),
-        "name": rule.name(),
-        "shortDescription": text_value(alloc, rule.summary())?
-    })
+    Object::new(alloc)
+        .with("defaultConfiguration", level_value(alloc, rule)?)?
+        .with("fullDescription", text_value(alloc, rule.description())?)?
+        .with("help", text_value(alloc, rule.help())?)?
+        .with_text("id", rule.id())?
+        .with_text("name", rule.name())?
+        .with_last("shortDescription", text_value(alloc, rule.summary())?)
 }
 
 /// Rules as the log describes them.

@@ -1,0 +1,63 @@
+//! Objects made member by member, and lists of one item.
+
+ghost use Rattle.std.specs.Prelude.{◌≡◌, IfOk};
+ghost use Rattle.serde_json.specs.Data.{string, array, object, item, no_items, no_members, put};
+ghost use Rattle.serde_json.specs.View.{view};
+ghost use Rattle.sarif_logs.specs.Objects.{members_of};
+
+use serde_json::{Map, Value, put};
+use std::alloc::{AllocError, Global};
+
+/// An object in the making.
+#[derive(Drop)]
+pub(crate) struct Object {
+    alloc: Global,
+    members: Map<String, Value>,
+}
+
+impl Object {
+    /// An object without members.
+    pub(crate) fn new(alloc: Global) -> Object
+        ensures { members_of result ≡ no_members }
+    {
+        Object {
+            alloc,
+            members: Map::new(alloc),
+        }
+    }
+
+    /// The object with a further member.
+    pub(crate) fn with(self, key: &str, value: Value) -> Result<Object, AllocError>
+        ensures { IfOk result (λ made. members_of made ≡ put key.now (view value) (members_of self)) }
+    {
+        let Object { alloc, mut members } = self;
+        put(&mut members, alloc, key, value)?;
+        Ok(Object { alloc, members })
+    }
+
+    /// The object with a text as a further member.
+    pub(crate) fn with_text(self, key: &str, text: &str) -> Result<Object, AllocError>
+        ensures { IfOk result (λ made. members_of made ≡ put key.now (string text.now) (members_of self)) }
+    {
+        let value = Value::try_from_str(self.alloc, text)?;
+        self.with(key, value)
+    }
+
+    /// The object with its last member.
+    pub(crate) fn with_last(self, key: &str, value: Value) -> Result<Value, AllocError>
+        ensures { IfOk result (λ made. view made ≡ object (put key.now (view value) (members_of self))) }
+    {
+        let Object { alloc, mut members } = self;
+        put(&mut members, alloc, key, value)?;
+        Ok(Value::Object(members))
+    }
+}
+
+/// A list of one item.
+pub(crate) fn list_of_one(alloc: Global, value: Value) -> Result<Value, AllocError>
+    ensures { IfOk result (λ made. view made ≡ array (item (view value) no_items)) }
+{
+    let mut list = Vec::new(alloc);
+    list.push(value)?;
+    Ok(Value::Array(list))
+}
