@@ -158,6 +158,30 @@ fn note_instead<A: Allocator>(notes: &mut Notes<A>, scene: &Scene<'_, '_>, name:
     }
 }
 
+/// The name in the word of a cell, or the word itself.
+fn name_in(word: &str) -> &str {
+    match element(word) {
+        Some((name, _)) => name,
+        None => word,
+    }
+}
+
+/// Notes what to do where a single cell has an index.
+fn note_no_array<A: Allocator>(notes: &mut Notes<A>, scene: &Scene<'_, '_>, name: &str) {
+    note_declared(notes, scene, name);
+    notes.add_help_with(
+        "write `",
+        name,
+        "`, or declare an array, by `mem NAME LENGTH`\n",
+    );
+}
+
+/// Notes what a name is declared as, and how such a thing is used.
+fn note_use<A: Allocator>(notes: &mut Notes<A>, scene: &Scene<'_, '_>, name: &str, help: &str) {
+    note_declared(notes, scene, name);
+    notes.add_help(help);
+}
+
 /// Notes what is known of a name that is not declared as what its place wants.
 pub(crate) fn note_unknown<A: Allocator>(
     notes: &mut Notes<A>,
@@ -165,11 +189,7 @@ pub(crate) fn note_unknown<A: Allocator>(
     mistake: UnknownMistake,
     part: Part,
 ) {
-    let word = scene.culprit(part);
-    let name = match element(word) {
-        Some((name, _)) => name,
-        None => word,
-    };
+    let name = name_in(scene.culprit(part));
     match mistake {
         UnknownMistake::Other => notes.add_help("declare it, or name another one"),
         UnknownMistake::Register => note_register(notes, scene, name),
@@ -180,21 +200,22 @@ pub(crate) fn note_unknown<A: Allocator>(
         UnknownMistake::CellRead => note_read(notes, scene, "read", name),
         UnknownMistake::ReducerRead => note_read(notes, scene, "get", name),
         UnknownMistake::NoIndex => note_array(notes, scene, name),
-        UnknownMistake::NoArray => {
-            note_declared(notes, scene, name);
-            notes.add_help_with(
-                "write `",
+        UnknownMistake::NoArray => note_no_array(notes, scene, name),
+        UnknownMistake::ReducerForCell => {
+            note_use(
+                notes,
+                scene,
                 name,
-                "`, or declare an array, by `mem NAME LENGTH`\n",
+                "a reducer is used by `update`, `put` and `get`",
             );
         }
-        UnknownMistake::ReducerForCell => {
-            note_declared(notes, scene, name);
-            notes.add_help("a reducer is used by `update`, `put` and `get`");
-        }
         UnknownMistake::CellForReducer => {
-            note_declared(notes, scene, name);
-            notes.add_help("a cell is used by `read`, `write` and `bump`");
+            note_use(
+                notes,
+                scene,
+                name,
+                "a cell is used by `read`, `write` and `bump`",
+            );
         }
         UnknownMistake::RegisterForCell => note_instead(notes, scene, name),
     }

@@ -97,12 +97,10 @@ fn note_monoid<A: Allocator>(notes: &mut Notes<A>, word: &str) {
 fn note_chain<A: Allocator>(notes: &mut Notes<A>, scene: &Scene<'_, '_>) {
     match scene.words {
         [_, target, _, left, sign, right, next, last, ..] => {
-            notes.begin("help: write a line for each: `let ");
-            notes.add_three(target, " = ", left);
-            notes.add_three(" ", sign, " ");
-            notes.add_three(right, "`, then `let ", target);
-            notes.add_three(" = ", target, " ");
-            notes.add_three(next, " ", last);
+            notes.begin("help: write a line for each: `");
+            notes.add_let(target, left, sign, right);
+            notes.add_words("`, then `");
+            notes.add_let(target, target, next, last);
             notes.add_words("`\n");
         }
         _ => notes.add_help("write a line for each operator"),
@@ -113,9 +111,9 @@ fn note_chain<A: Allocator>(notes: &mut Notes<A>, scene: &Scene<'_, '_>) {
 fn note_extra<A: Allocator>(notes: &mut Notes<A>, scene: &Scene<'_, '_>, word: &str) {
     match scene.words {
         ["if", left, sign, right, ..] => {
-            notes.begin("help: assign the condition first: `let t = ");
-            notes.add_three(left, " ", sign);
-            notes.add_three(" ", right, "`, then `if t`\n");
+            notes.begin("help: assign the condition first: `");
+            notes.add_let("t", left, sign, right);
+            notes.add_words("`, then `if t`\n");
         }
         ["else", "if", ..] => {
             notes.add_help("put the `if` on a line of its own behind the `else`, and end both");
@@ -147,13 +145,18 @@ fn note_negative<A: Allocator>(
     }
 }
 
+/// The length of an array that was declared as in C, by what stands behind the bracket.
+fn length_in(behind: &str) -> &str {
+    let length = behind.strip_suffix(']').unwrap_or(behind);
+    if length.is_empty() { "LENGTH" } else { length }
+}
+
 /// Notes how an array is declared that was declared as in C.
 fn note_declaration<A: Allocator>(notes: &mut Notes<A>, word: &str) {
     match word.split_once('[') {
         Some((name, behind)) => {
             notes.begin("help: write `mem ");
-            let length = behind.strip_suffix(']').unwrap_or(behind);
-            notes.add_three(name, " ", if length.is_empty() { "LENGTH" } else { length });
+            notes.add_three(name, " ", length_in(behind));
             notes.add_words("`\n");
         }
         None => notes.add_help("write `mem NAME LENGTH`"),
@@ -164,9 +167,9 @@ fn note_declaration<A: Allocator>(notes: &mut Notes<A>, word: &str) {
 fn note_operator<A: Allocator>(notes: &mut Notes<A>, scene: &Scene<'_, '_>) {
     match scene.words {
         ["let", target, _, left, ">", right] => {
-            notes.begin("help: swap the two: `let ");
-            notes.add_three(target, " = ", right);
-            notes.add_three(" < ", left, "`\n");
+            notes.begin("help: swap the two: `");
+            notes.add_let(target, right, "<", left);
+            notes.add_words("`\n");
         }
         _ => notes.add_help("take `+`, `-`, `*` or `<`"),
     }
@@ -213,44 +216,49 @@ fn word_help(mistake: WordMistake) -> Option<&'static str> {
     }
 }
 
-/// Notes what is known of a word of another shape than its place wants, or of words that are missing or too much.
-pub(crate) fn note_word<A: Allocator>(
+/// Notes how a name is written that has upper-case letters.
+fn note_upper_case<A: Allocator>(notes: &mut Notes<A>, word: &str) {
+    notes.begin("help: write `");
+    notes.add_lowercase(word);
+    notes.add_words("`\n");
+}
+
+/// Notes how long a name is that is too long.
+fn note_long<A: Allocator>(notes: &mut Notes<A>, word: &str) {
+    notes.begin("help: shorten it from ");
+    notes.add_number(word.len() as u64, " to 32 bytes\n");
+}
+
+/// Notes what `ok` is.
+fn note_ok<A: Allocator>(notes: &mut Notes<A>) {
+    notes.add_note("each access sets `ok`: to 1 where it is granted, to 0 where it is refused");
+    notes.add_help("name another register");
+}
+
+/// Notes which numbers may stand in the place of a word that is none.
+fn note_no_number<A: Allocator>(notes: &mut Notes<A>, scene: &Scene<'_, '_>, part: Part) {
+    match part {
+        Part::Index(_) => note_element(notes, scene, part),
+        _ => {
+            note_range(notes, wanted_at(scene, part));
+            note_form(notes, scene);
+        }
+    }
+}
+
+/// Notes what is known of a word of another shape than its place wants.
+fn note_shape<A: Allocator>(
     notes: &mut Notes<A>,
     scene: &Scene<'_, '_>,
     mistake: WordMistake,
     part: Part,
 ) {
     let word = scene.culprit(part);
-    let wanted = wanted_at(scene, part);
     match mistake {
-        WordMistake::Statement if scene.word(1) == "=" => note_assignment(notes, scene),
-        WordMistake::Statement | WordMistake::Request => note_first(notes, scene.meant, word),
-        WordMistake::OfTrace if scene.word(0) == "return" => {
-            notes.add_help("a function returns at its `end`");
-        }
-        WordMistake::OfTrace | WordMistake::OfProgram => note_other_kind(notes, scene),
-        WordMistake::Extra => note_extra(notes, scene, word),
-        WordMistake::Argument => {
-            note_form(notes, scene);
-            notes.add_help("hand on other values in cells, which the function reads");
-        }
-        WordMistake::Chain => note_chain(notes, scene),
-        WordMistake::UpperCase => {
-            notes.begin("help: write `");
-            notes.add_lowercase(word);
-            notes.add_words("`\n");
-        }
-        WordMistake::LongName => {
-            notes.begin("help: shorten it from ");
-            notes.add_number(word.len() as u64, " to 32 bytes\n");
-        }
-        WordMistake::Ok => {
-            notes.add_note(
-                "each access sets `ok`: to 1 where it is granted, to 0 where it is refused",
-            );
-            notes.add_help("name another register");
-        }
-        WordMistake::Negative => note_negative(notes, scene, wanted, word),
+        WordMistake::UpperCase => note_upper_case(notes, word),
+        WordMistake::LongName => note_long(notes, word),
+        WordMistake::Ok => note_ok(notes),
+        WordMistake::Negative => note_negative(notes, scene, wanted_at(scene, part), word),
         WordMistake::Element => {
             notes.add_help_with(
                 "read it into a register first: `read r ",
@@ -265,11 +273,7 @@ pub(crate) fn note_word<A: Allocator>(
                 "`, then `if t`\n",
             );
         }
-        WordMistake::NoNumber if matches!(part, Part::Index(_)) => note_element(notes, scene, part),
-        WordMistake::NoNumber => {
-            note_range(notes, wanted);
-            note_form(notes, scene);
-        }
+        WordMistake::NoNumber => note_no_number(notes, scene, part),
         WordMistake::NoMonoid => note_monoid(notes, word),
         WordMistake::Operator => note_operator(notes, scene),
         WordMistake::Array => note_declaration(notes, word),
@@ -277,5 +281,30 @@ pub(crate) fn note_word<A: Allocator>(
             Some(help) => notes.add_help(help),
             None => note_form(notes, scene),
         },
+    }
+}
+
+/// Notes what is known of a word of another shape than its place wants, or of words that are missing or too much.
+pub(crate) fn note_word<A: Allocator>(
+    notes: &mut Notes<A>,
+    scene: &Scene<'_, '_>,
+    mistake: WordMistake,
+    part: Part,
+) {
+    let word = scene.culprit(part);
+    match mistake {
+        WordMistake::Statement if scene.word(1) == "=" => note_assignment(notes, scene),
+        WordMistake::Statement | WordMistake::Request => note_first(notes, scene.meant, word),
+        WordMistake::OfTrace if scene.word(0) == "return" => {
+            notes.add_help("a function returns at its `end`");
+        }
+        WordMistake::OfTrace | WordMistake::OfProgram => note_other_kind(notes, scene),
+        WordMistake::Extra => note_extra(notes, scene, word),
+        WordMistake::Argument => {
+            note_form(notes, scene);
+            notes.add_help("hand on other values in cells, which the function reads");
+        }
+        WordMistake::Chain => note_chain(notes, scene),
+        _ => note_shape(notes, scene, mistake, part),
     }
 }

@@ -74,6 +74,13 @@ impl<A: Allocator> Notes<A> {
         self.is_short |= push_three(&mut self.text, first, second, third).is_err();
     }
 
+    /// Adds a `let` with an operator.
+    pub(crate) fn add_let(&mut self, target: &str, left: &str, sign: &str, right: &str) {
+        self.add_three("let ", target, " = ");
+        self.add_three(left, " ", sign);
+        self.add_three(" ", right, "");
+    }
+
     /// Adds the cell of an array in quotes, and the words behind it.
     pub(crate) fn add_element(&mut self, name: &str, index: u64, behind: &str) {
         self.add_three("`", name, "[");
