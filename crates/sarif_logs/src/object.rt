@@ -1,4 +1,7 @@
 //! Objects made member by member, and lists of one item.
+//!
+//! An [`Object`] goes from call to call by value, so each member is a step of its own in a proof. `json!` makes all members in one function,
+//! and each of its steps is proved with the whole map alive.
 
 ghost use Rattle.std.specs.Prelude.{◌≡◌, IfOk};
 ghost use Rattle.serde_json.specs.Data.{string, array, object, item, no_items, no_members, put};
@@ -10,14 +13,14 @@ use std::alloc::{AllocError, Global};
 
 /// An object in the making.
 #[derive(Drop)]
-pub(crate) struct Object {
+pub struct Object {
     alloc: Global,
     members: Map<String, Value>,
 }
 
 impl Object {
     /// An object without members.
-    pub(crate) fn new(alloc: Global) -> Object
+    pub fn new(alloc: Global) -> Object
         ensures { members_of result ≡ no_members }
     {
         Object {
@@ -26,8 +29,8 @@ impl Object {
         }
     }
 
-    /// The object with a further member.
-    pub(crate) fn with(self, key: &str, value: Value) -> Result<Object, AllocError>
+    /// The object with a further member. Errors where there is no memory.
+    pub fn with(self, key: &str, value: Value) -> Result<Object, AllocError>
         ensures { IfOk result (λ made. members_of made ≡ put key.now (view value) (members_of self)) }
     {
         let Object { alloc, mut members } = self;
@@ -35,16 +38,16 @@ impl Object {
         Ok(Object { alloc, members })
     }
 
-    /// The object with a text as a further member.
-    pub(crate) fn with_text(self, key: &str, text: &str) -> Result<Object, AllocError>
+    /// The object with a text as a further member. Errors where there is no memory.
+    pub fn with_text(self, key: &str, text: &str) -> Result<Object, AllocError>
         ensures { IfOk result (λ made. members_of made ≡ put key.now (string text.now) (members_of self)) }
     {
         let value = Value::try_from_str(self.alloc, text)?;
         self.with(key, value)
     }
 
-    /// The object with its last member.
-    pub(crate) fn with_last(self, key: &str, value: Value) -> Result<Value, AllocError>
+    /// The object with its last member, as a value. Errors where there is no memory.
+    pub fn with_last(self, key: &str, value: Value) -> Result<Value, AllocError>
         ensures { IfOk result (λ made. view made ≡ object (put key.now (view value) (members_of self))) }
     {
         let Object { alloc, mut members } = self;
@@ -53,8 +56,8 @@ impl Object {
     }
 }
 
-/// A list of one item.
-pub(crate) fn list_of_one(alloc: Global, value: Value) -> Result<Value, AllocError>
+/// A list of one item. Errors where there is no memory.
+pub fn list_of_one(alloc: Global, value: Value) -> Result<Value, AllocError>
     ensures { IfOk result (λ made. view made ≡ array (item (view value) no_items)) }
 {
     let mut list = Vec::new(alloc);
