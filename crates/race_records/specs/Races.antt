@@ -1,6 +1,6 @@
 -- What is told of a pair of places that raced.
 use Rattle.std.specs.Prelude.{ℕ, suc, Bool, true, false, List, [], ◌∷◌, ◌++◌, Option, Some, None, codes, drop, flat_map, slice_get, if◌then◌else◌}
-use Rattle.serde_json.specs.Data.{Data, null, string, object, member, no_members}
+use Rattle.serde_json.specs.Data.{Data, Members, null, string, object, member, no_members}
 use Rattle.model_accesses.specs.Table.{spelling}
 use Rattle.race_pairs.specs.declared.refusal.Reason.{Reason}
 use Rattle.race_pairs.specs.declared.refusal.Reason.TheVariants.{Race, ViewRead, Unset}
@@ -56,6 +56,17 @@ parts_of setting pair encounter = record {
   refused = access_told setting pair.first (Some encounter.refused) encounter.chain.items;
   witness = witness_told pair.lines.reason setting pair encounter;
 }
+
+-- the members that neither the names nor the group of a pair change
+abbrev pub race_members : RaceParts → Members
+race_members parts =
+    member (codes "kind") (string (kind_word parts.reason))
+    (member (codes "outstanding") parts.outstanding
+    (member (codes "parting") parts.parting
+    (member (codes "refused") parts.refused
+    (member (codes "rule") (string (rule_word parts.reason))
+    (member (codes "spawn_line") (number_or_null parts.spawn)
+    (member (codes "witness") parts.witness no_members))))))
 
 -- what is told of a pair: the names of the cells or reducers on which it raced, each behind a space, how often, the number of its group, and
 -- whether a sync orders all of it

@@ -1,6 +1,6 @@
 -- What is told of a text that means nothing, and of an illegal request.
 use Rattle.std.specs.Prelude.{ℕ, ◌≡◌, Bool, false, Option, List, [], ◌∷◌, codes}
-use Rattle.serde_json.specs.Data.{Data, boolean, string, object, member, no_members}
+use Rattle.serde_json.specs.Data.{Data, Members, boolean, string, object, member, no_members}
 use Rattle.text_words.specs.declared.fault.Cause.{Cause}
 use Rattle.text_words.specs.declared.fault.Cause.TheVariants as cause
 use Rattle.text_words.specs.declared.value.TraceLine.{TraceLine}
@@ -26,6 +26,14 @@ cause_word cause.TwiceNamed = codes "TwiceNamed"
 cause_word cause.BadNesting = codes "BadNesting"
 cause_word cause.NoMain = codes "NoMain"
 cause_word cause.TooMany = codes "TooMany"
+
+-- the members of a line of a file, with what a person is told of it
+abbrev pub line_members : (file : List ℕ) → (source : List (List ℕ)) → (line : ℕ) → (rendered : List ℕ) → Members
+line_members file source line rendered =
+    member (codes "code") (text_told (line_in source line))
+    (member (codes "file") (text_told file)
+    (member (codes "line") (count_told line)
+    (member (codes "rendered") (text_told rendered) no_members)))
 
 -- a fault, with what a person is told of it
 abbrev pub fault_told : (file : List ℕ) → (source : List (List ℕ)) → Fault → (rendered : List ℕ) → Data

@@ -9,7 +9,8 @@ ghost use Rattle.race_records.specs.Accesses.{place_told, link_told, access_told
 use crate::site::line_value;
 use race_explanations::{Scene, line_of, side_word, way_word};
 use race_pairs::{Link, Side};
-use serde_json::{Value, json};
+use sarif_logs::Object;
+use serde_json::Value;
 use std::alloc::{AllocError, Global};
 
 /// How many spawns and calls are told at most.
@@ -31,7 +32,9 @@ fn link_value(alloc: Global, scene: &Scene<'_, '_>, link: Link) -> Result<Value,
     ensures { IfOk result (λ value. view value ≡ link_told (setting_of scene.now) link) }
 {
     let place = place_value(alloc, scene, link.entry)?;
-    json!(in alloc; {"place": place, "way": way_word(link.way)})
+    Object::new(alloc)
+        .with_text("way", way_word(link.way))?
+        .with_last("place", place)
 }
 
 /// Spawns and calls on the way to an access.
@@ -67,10 +70,9 @@ pub(crate) fn access_value(
 ) -> Result<Value, AllocError>
     ensures { IfOk result (λ value. view value ≡ access_told (setting_of scene.now) number side chain.now) }
 {
-    json!(in alloc; {
-        "further": chain.len().saturating_sub(LINKS),
-        "place": place_value(alloc, scene, number)?,
-        "within": within_value(alloc, scene, chain)?,
-        "word": side_word(side)
-    })
+    Object::new(alloc)
+        .with("place", place_value(alloc, scene, number)?)?
+        .with("within", within_value(alloc, scene, chain)?)?
+        .with_text("word", side_word(side))?
+        .with_last("further", Value::from(chain.len().saturating_sub(LINKS)))
 }

@@ -1,9 +1,12 @@
 //! Where two strands part, and what would order them.
 
 ghost use Rattle.std.specs.Prelude.{◌≡◌, IfOk};
+ghost use Rattle.serde_json.specs.Data.{put};
 ghost use Rattle.serde_json.specs.View.{view};
+ghost use Rattle.sarif_logs.specs.Objects.{members_of};
 ghost use Rattle.race_explanations.specs.Scenes.{setting_of};
 ghost use Rattle.race_explanations.specs.Advice.{line_on};
+ghost use Rattle.race_records.specs.Sites.{site_told};
 ghost use Rattle.race_records.specs.Advice.{parting_told, outstanding_told, onward_line};
 ghost use Rattle.race_records.specs.Advice.{help_told, parting_of, outstanding_of};
 
@@ -12,8 +15,22 @@ use crate::site::line_value;
 use crate::value::text_value;
 use race_explanations::{Scene, help_of, line_of, line_on};
 use race_pairs::{Encounter, OpenSpawn, Pair, Parting, Reason};
-use serde_json::{Value, json};
+use sarif_logs::Object;
+use serde_json::Value;
 use std::alloc::{AllocError, Global};
+
+/// An object with where a line stands as a further member.
+fn with_line(
+    object: Object,
+    alloc: Global,
+    scene: &Scene<'_, '_>,
+    key: &str,
+    line: u32,
+) -> Result<Object, AllocError>
+    ensures { IfOk result (λ made. members_of made ≡ put key.now (site_told (setting_of scene.now).origin line) (members_of object)) }
+{
+    object.with(key, line_value(alloc, scene, line)?)
+}
 
 /// The spawn where two strands part, and whither its child and its next strand come.
 fn parting_value(
@@ -29,11 +46,12 @@ fn parting_value(
     let Some(parting) = parting else {
         return Ok(Value::Null);
     };
-    json!(in alloc; {
-        "child": line_value(alloc, scene, line_on(pair, refused, parting.by_child))?,
-        "next": line_value(alloc, scene, onward)?,
-        "spawn": place_value(alloc, scene, parting.entry)?
-    })
+    let child = line_on(pair, refused, parting.by_child);
+    let object = with_line(Object::new(alloc), alloc, scene, "child", child)?;
+    with_line(object, alloc, scene, "next", onward)?.with_last(
+        "spawn",
+        place_value(alloc, scene, parting.entry)?,
+    )
 }
 
 /// The spawn that is outstanding at one of two reads and not at the other.
@@ -49,11 +67,13 @@ fn outstanding_value(
     let Some(spawn) = spawn else {
         return Ok(Value::Null);
     };
-    json!(in alloc; {
-        "at": line_value(alloc, scene, line_on(pair, refused, spawn.parallel))?,
-        "not_at": line_value(alloc, scene, line_on(pair, refused, spawn.ordered))?,
-        "spawn": place_value(alloc, scene, spawn.entry)?
-    })
+    let at = line_on(pair, refused, spawn.parallel);
+    let not_at = line_on(pair, refused, spawn.ordered);
+    let object = with_line(Object::new(alloc), alloc, scene, "at", at)?;
+    with_line(object, alloc, scene, "not_at", not_at)?.with_last(
+        "spawn",
+        place_value(alloc, scene, spawn.entry)?,
+    )
 }
 
 /// Where the next strand of the spawn goes on.

@@ -3,18 +3,20 @@
 ghost use Rattle.std.specs.Prelude.{◌≡◌, ℕ, List, IfOk, map, string_bytes, if◌then◌else◌};
 ghost use Rattle.std.specs.Global.{Vec};
 ghost use Rattle.serde_json.specs.View.{view};
+ghost use Rattle.sarif_logs.specs.Objects.{members_of};
 ghost use Rattle.race_explanations.specs.Scenes.{setting_of};
 ghost use Rattle.race_records.specs.Values.{list_told};
-ghost use Rattle.race_records.specs.Races.{rule_word, kind_word, witness_told, name_told, parts_of, race_told, case_told};
+ghost use Rattle.race_records.specs.Races.{rule_word, kind_word, witness_told, name_told, parts_of, race_members, race_told, case_told};
 ghost use Rattle.race_records.specs.RaceViews.{race_parts};
 
 use crate::access::access_value;
 use crate::advice::{help_value, outstanding_of, parting_of};
-use crate::value::{count_or_null, text_value};
+use crate::value::{count_or_null, text_value, with_copy};
 use access_table::word;
 use race_explanations::{Case, Scene, display_names};
 use race_pairs::{Encounter, Pair, Reason};
-use serde_json::{Value, json};
+use sarif_logs::Object;
+use serde_json::Value;
 use std::alloc::{AllocError, Global};
 use std::collections::BTreeSet;
 
@@ -149,6 +151,20 @@ fn names_value(alloc: Global, names: &BTreeSet<Vec<u8>>) -> Result<Value, AllocE
     Ok(Value::from(values))
 }
 
+/// The part of what is told of a pair that neither its names nor its group change.
+fn begin_race(alloc: Global, race: &Race) -> Result<Object, AllocError>
+    ensures { IfOk result (λ begun. members_of begun ≡ race_members (race_parts race.now)) }
+{
+    let kind = Value::from(kind_word(alloc, race.reason)?);
+    let object = Object::new(alloc).with("kind", kind)?;
+    let object = with_copy(object, "outstanding", &race.outstanding)?;
+    let object = with_copy(object, "parting", &race.parting)?;
+    let object = with_copy(object, "refused", &race.refused)?;
+    with_copy(object, "witness", &race.witness)?
+        .with_text("rule", rule_word(race.reason))?
+        .with("spawn_line", count_or_null(race.spawn))
+}
+
 /// What orders the two, by whether a sync is sure to.
 fn help_of(race: &Race, is_sure: bool) -> &Value
     ensures { view result.now ≡ (if is_sure then (race_parts race.now).sure_help else (race_parts race.now).open_help) }
@@ -171,19 +187,11 @@ pub(crate) fn race_value(
 ) -> Result<Value, AllocError>
     ensures { IfOk result (λ value. view value ≡ race_told (race_parts race.now) (map (λ (name : Vec ℕ). name.items) names.now.keys) times group is_sure) }
 {
-    json!(in alloc; {
-        "group": group,
-        "help": help_of(race, is_sure),
-        "kind": kind_word(alloc, race.reason)?,
-        "locations": names_value(alloc, names)?,
-        "outstanding": &race.outstanding,
-        "parting": &race.parting,
-        "refused": &race.refused,
-        "rule": rule_word(race.reason),
-        "spawn_line": count_or_null(race.spawn),
-        "times": times,
-        "witness": &race.witness
-    })
+    let locations = names_value(alloc, names)?;
+    with_copy(begin_race(alloc, race)?, "help", help_of(race, is_sure))?
+        .with("locations", locations)?
+        .with("times", Value::from(times))?
+        .with_last("group", Value::from(group))
 }
 
 /// What is told of a race in the group with this number, by whether a sync orders all of the group.

@@ -21,14 +21,15 @@ ghost use Rattle.race_records.specs.SeveralViews.{kept_of, recorded_of};
 use crate::document::{Outcome, Summary, document_value};
 use crate::form::{RecordForm, record_text};
 use crate::race::{Race, race_of, race_value};
-use crate::value::text_value;
+use crate::value::with_bytes;
 use crate::warning::none_warned;
 use race_explanations::{
     Extent, Finding, FindingList, Scene, are_sure, finding_of, group_findings, most_pairs,
     trace_scene,
 };
 use race_pairs::{Digest, Encounter};
-use serde_json::{Value, json};
+use sarif_logs::Object;
+use serde_json::Value;
 use std::alloc::{AllocError, Global};
 use trace_notes::Notes;
 use trace_text::Trace;
@@ -117,6 +118,16 @@ fn keep_all(
     Ok(())
 }
 
+/// A file, with how many of its pairs are not kept.
+fn untold_value(alloc: Global, file: &str, count: usize) -> Result<Value, AllocError>
+    ensures { IfOk result (λ value. view value ≡ untold_told file.now count) }
+{
+    with_bytes(Object::new(alloc), alloc, "file", file.as_bytes())?.with_last(
+        "pairs",
+        Value::from(count),
+    )
+}
+
 /// Adds a file of which not all pairs are kept, where it is one.
 fn push_untold(
     alloc: Global,
@@ -130,8 +141,7 @@ fn push_untold(
     if count <= most {
         return Ok(());
     }
-    let name = text_value(alloc, file.as_bytes())?;
-    let value = json!(in alloc; {"file": name, "pairs": count - most})?;
+    let value = untold_value(alloc, file, count - most)?;
     Ok(untold.push(value)?)
 }
 

@@ -3,15 +3,19 @@
 ghost use Rattle.std.specs.Prelude.{◌≡◌, ◌↔◌, IfOk, IsTrue};
 ghost use Rattle.std.specs.Option.{option_map};
 ghost use Rattle.text_words.specs.Text.{BeginsWithDigit};
+ghost use Rattle.serde_json.specs.Data.{put};
 ghost use Rattle.serde_json.specs.View.{view};
+ghost use Rattle.sarif_logs.specs.Objects.{members_of};
 ghost use Rattle.trace_notes.specs.Places.{place_parts};
 ghost use Rattle.race_explanations.specs.Scenes.{setting_of};
+ghost use Rattle.race_records.specs.Values.{text_or_null};
 ghost use Rattle.race_records.specs.Sites.{number_of, number_behind, location_by, location_of, marked_site, site_in, line_of_file, parts_told, site_told};
 ghost use Rattle.race_records.specs.SiteViews.{location_parts, site_parts};
 
 use crate::value::{count_or_null, text_or_null};
 use race_explanations::{Origin, Scene, function_in};
-use serde_json::{Value, json};
+use sarif_logs::Object;
+use serde_json::Value;
 use source_quotes::{Source, statement_of};
 use std::alloc::{AllocError, Global};
 use trace_notes::Place;
@@ -148,17 +152,27 @@ pub(crate) fn site_in<'b>(scene: &'b Scene<'_, '_>, line: u32) -> Site<'b>
     }
 }
 
+/// An object with bytes as a text, where there are some, as a further member.
+fn with_text_or_null(
+    object: Object,
+    alloc: Global,
+    key: &str,
+    text: Option<&[u8]>,
+) -> Result<Object, AllocError>
+    ensures { IfOk result (λ made. members_of made ≡ put key.now (text_or_null (option_map (λ text. text.now) text.entry)) (members_of object)) }
+{
+    object.with(key, text_or_null(alloc, text)?)
+}
+
 /// A site as a value.
 fn site_value(alloc: Global, site: Site<'_>) -> Result<Value, AllocError>
     ensures { IfOk result (λ value. view value ≡ parts_told (site_parts site.entry)) }
 {
-    json!(in alloc; {
-        "code": text_or_null(alloc, site.code)?,
-        "column": count_or_null(site.column),
-        "file": text_or_null(alloc, bytes_of(site.file))?,
-        "function": text_or_null(alloc, bytes_of(site.function))?,
-        "line": count_or_null(site.line)
-    })
+    let object = with_text_or_null(Object::new(alloc), alloc, "code", site.code)?;
+    let object = with_text_or_null(object, alloc, "file", bytes_of(site.file))?;
+    with_text_or_null(object, alloc, "function", bytes_of(site.function))?
+        .with("column", count_or_null(site.column))?
+        .with_last("line", count_or_null(site.line))
 }
 
 /// A line of a file, as a value.

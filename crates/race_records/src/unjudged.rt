@@ -5,18 +5,20 @@ ghost use Rattle.serde_json.specs.Data.{Data};
 ghost use Rattle.text_words.specs.Text.{lines};
 ghost use Rattle.trace_text.specs.Traces.{contents as trace_contents};
 ghost use Rattle.serde_json.specs.View.{view};
+ghost use Rattle.sarif_logs.specs.Objects.{members_of};
 ghost use Rattle.fault_lists.specs.FaultLists.{HasFault};
 ghost use Rattle.race_records.specs.Values.{IsTextOf};
 ghost use Rattle.race_records.specs.Forms.{in_form};
-ghost use Rattle.race_records.specs.Unjudged.{cause_word, fault_told, RecordsFault, RecordsFaults, RecordsText, faulty_told, request_told, illegal_told};
+ghost use Rattle.race_records.specs.Unjudged.{cause_word, line_members, fault_told, RecordsFault, RecordsFaults, RecordsText, faulty_told, request_told, illegal_told};
 
 use crate::form::{RecordForm, record_text};
-use crate::value::text_value;
+use crate::value::with_bytes;
 use fault_lists::{Fault, list_others};
 use race_explanations::{
     Illegality, at_of, help_words, illegal_explanation, request_line, strand_of, title_words,
 };
-use serde_json::{Value, json};
+use sarif_logs::Object;
+use serde_json::Value;
 use source_quotes::{Meant, Source, fault_message};
 use std::alloc::{AllocError, Global};
 use text_words::{Cause, TraceLine};
@@ -39,6 +41,21 @@ fn cause_word(why: Cause) -> &'static str
     }
 }
 
+/// A line of a file, with what a person is told of it.
+fn quote_line(
+    alloc: Global,
+    file: &str,
+    source: &Source<'_, Global>,
+    line: u32,
+    rendered: &[u8],
+) -> Result<Object, AllocError>
+    ensures { IfOk result (λ quoted. members_of quoted ≡ line_members file.now source.now line rendered.now) }
+{
+    let object = with_bytes(Object::new(alloc), alloc, "code", source.line(line))?;
+    let object = with_bytes(object, alloc, "file", file.as_bytes())?;
+    with_bytes(object, alloc, "rendered", rendered)?.with("line", Value::from(line))
+}
+
 /// A fault, with what a person is told of it.
 fn rendered_value(
     alloc: Global,
@@ -49,13 +66,8 @@ fn rendered_value(
 ) -> Result<Value, AllocError>
     ensures { IfOk result (λ value. view value ≡ fault_told file.now source.now fault rendered.now) }
 {
-    json!(in alloc; {
-        "cause": cause_word(fault.why),
-        "code": text_value(alloc, source.line(fault.line))?,
-        "file": text_value(alloc, file.as_bytes())?,
-        "line": fault.line,
-        "rendered": text_value(alloc, rendered)?
-    })
+    let cause = Value::try_from_str(alloc, cause_word(fault.why))?;
+    quote_line(alloc, file, source, fault.line, rendered)?.with_last("cause", cause)
 }
 
 /// What is told of a fault.
@@ -98,12 +110,11 @@ fn push_faults(
 fn faulty_value(alloc: Global, faults: Vec<Value>, is_more: bool) -> Result<Value, AllocError>
     ensures { IfOk result (λ value. view value ≡ faulty_told (map view faults.items) is_more) }
 {
-    json!(in alloc; {
-        "faults": faults,
-        "more": is_more,
-        "outcome": "faulty",
-        "version": 1_u8
-    })
+    Object::new(alloc)
+        .with("faults", Value::from(faults))?
+        .with("more", Value::from(is_more))?
+        .with_text("outcome", "faulty")?
+        .with_last("version", Value::from(1_u8))
 }
 
 /// Tells in a form of the text of a program or a trace that has this fault: of it and of each fault behind it that
@@ -148,19 +159,13 @@ fn request_value(
 ) -> Result<Value, AllocError>
     ensures { IfOk result (λ value. view value ≡ request_told file.now source.now line number why rendered.now) }
 {
-    let at = at_of(line);
-    json!(in alloc; {
-        "code": text_value(alloc, source.line(at))?,
-        "file": text_value(alloc, file.as_bytes())?,
-        "help": help_words(why),
-        "line": at,
-        "message": title_words(why),
-        "outcome": "illegal",
-        "rendered": text_value(alloc, rendered)?,
-        "request": number,
-        "strand": strand_of(line),
-        "version": 1_u8
-    })
+    quote_line(alloc, file, source, at_of(line), rendered)?
+        .with_text("help", help_words(why))?
+        .with_text("message", title_words(why))?
+        .with_text("outcome", "illegal")?
+        .with("request", Value::from(number))?
+        .with("strand", Value::from(strand_of(line)))?
+        .with_last("version", Value::from(1_u8))
 }
 
 /// An illegal request, as one value.

@@ -5,9 +5,9 @@ ghost use Rattle.std.specs.Ordering.{nat_cmp};
 ghost use Rattle.std.specs.BTreeMap.{get};
 ghost use Rattle.program_text.specs.Programs.{contents};
 ghost use Rattle.program_warnings.specs.declared.warning.Warning.{Warning};
-ghost use Rattle.program_warnings.specs.Messages.{AreWarnings};
+ghost use Rattle.program_warnings.specs.Messages.{AreWarnings, title};
 ghost use Rattle.serde_json.specs.View.{view};
-ghost use Rattle.race_records.specs.Values.{list_told};
+ghost use Rattle.race_records.specs.Values.{text_told, list_told};
 ghost use Rattle.race_records.specs.Warned.{rule_word, warning_told, none_warned, warned_of};
 ghost use Rattle.race_records.specs.WarnedViews.{warned_parts};
 
@@ -15,7 +15,8 @@ use crate::site::file_line_value;
 use crate::value::text_value;
 use program_text::Program;
 use program_warnings::{Warning, Wraps, find_warnings, line_of_warning, title_of_warning};
-use serde_json::{Value, json};
+use sarif_logs::Object;
+use serde_json::Value;
 use source_quotes::Source;
 use std::alloc::{AllocError, Global};
 
@@ -51,6 +52,18 @@ fn rule_word(warning: Warning) -> &'static str
     }
 }
 
+/// The message of a warning.
+fn message_value(
+    alloc: Global,
+    program: &Program<Global>,
+    warning: Warning,
+) -> Result<Value, AllocError>
+    ensures { IfOk result (λ value. view value ≡ text_told (title (contents program.now) warning)) }
+{
+    let title = title_of_warning(alloc, program, warning)?;
+    text_value(alloc, title.as_slice())
+}
+
 /// What is told of a warning.
 fn warning_value(
     alloc: Global,
@@ -61,12 +74,11 @@ fn warning_value(
 ) -> Result<Value, AllocError>
     ensures { IfOk result (λ value. view value ≡ warning_told file.now source.now (contents program.now) warning) }
 {
-    let title = title_of_warning(alloc, program, warning)?;
-    json!(in alloc; {
-        "message": text_value(alloc, title.as_slice())?,
-        "place": file_line_value(alloc, file, source, line_of_warning(warning))?,
-        "rule": rule_word(warning)
-    })
+    let place = file_line_value(alloc, file, source, line_of_warning(warning))?;
+    Object::new(alloc)
+        .with("place", place)?
+        .with_text("rule", rule_word(warning))?
+        .with_last("message", message_value(alloc, program, warning)?)
 }
 
 /// What is told of warnings.
