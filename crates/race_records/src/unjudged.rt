@@ -159,7 +159,8 @@ fn request_value(
 ) -> Result<Value, AllocError>
     ensures { IfOk result (λ value. view value ≡ request_told file.now source.now line number why rendered.now) }
 {
-    quote_line(alloc, file, source, at_of(line), rendered)?
+    let at = at_of(line);
+    quote_line(alloc, file, source, at, rendered)?
         .with_text("help", help_words(why))?
         .with_text("message", title_words(why))?
         .with_text("outcome", "illegal")?
