@@ -1,12 +1,13 @@
 -- Lines that are told one after another through a buffer.
 use Rattle.std.proofs.Common.{◌≡◌, ℕ, List, [], ◌++◌, Bool, false, Option, append-nil, append_assoc, sym, subst, ◌∙◌}
-use Rattle.std.specs.Prelude.{Result, Ok, Err, IfErr, OnOk}
+use Rattle.std.specs.Prelude.{◌↔◌, true, IsTrue, Result, Ok, Err, IfErr, IsErrOf, OnOk}
 use Rattle.std.specs.Io.KnownBytes.{Appends, Keeps}
 use Rattle.command_streams.specs.declared.fault.CliFault.{CliFault}
 use Rattle.command_streams.specs.declared.fault.CliFault.TheVariants.{Write}
+use Rattle.command_streams.specs.declared.watched.Watched.{Watched}
 use Rattle.command_streams.specs.Streams.{StopsWriting}
 use Rattle.command_streams.specs.Tellings.{IsTold, Telling, telling, TellsMore}
-use Rattle.command_streams.proofs.Telling.{none_told, told_more, told_whole, told_cut}
+use Rattle.command_streams.proofs.Telling.{none_told, told_more, told_written, told_failed, told_whole, told_cut}
 
 -- nothing more is told
 pub tells_none : (known : Telling) → TellsMore known known []
@@ -25,6 +26,24 @@ pub tells_added : (before behind : Telling) (longer bytes : List ℕ) → TellsM
 tells_added before behind longer bytes tells is wrote text told =
     told_more wrote behind.device behind.failed behind.waiting longer text bytes is
     (told_still before.device behind.device before.failed behind.failed before.waiting behind.waiting tells wrote text told)
+
+module _ {W : Type 0} (contents : W → Option (List ℕ)) (before now : Watched W) (waiting left : List ℕ) where
+  -- what waits was written as far as the result tells
+  pub tells_written : (behind : Watched W) (result : Result (Unit {0}) CliFault) (written : List ℕ) → now ≡ behind → before.failed ≡ false → left ≡ [] → written ≡ waiting →
+      OnOk result (Appends (contents before.inner) (contents behind.inner) written) →
+      IfErr result (StopsWriting (contents before.inner) (contents behind.inner) written) → (IsErrOf result Write ↔ IsTrue behind.failed) →
+      TellsMore (telling (contents before.inner) before.failed waiting) (telling (contents now.inner) now.failed left) []
+  tells_written behind result written same fresh none is given stops fails wrote text told =
+      let told : IsTold wrote (contents before.inner) before.failed written text = rw is told in
+      let then : IsTold wrote (contents behind.inner) behind.failed left text =
+      told_written result wrote (contents before.inner) (contents behind.inner) before.failed behind.failed written left text fresh none given stops fails told in
+      rw (same, append-nil text) then
+
+  -- what waits was let go behind a write that failed
+  pub tells_failed : now ≡ before → before.failed ≡ true →
+      TellsMore (telling (contents before.inner) before.failed waiting) (telling (contents now.inner) now.failed left) []
+  tells_failed same fails wrote text told =
+      rw (same, append-nil text) (told_failed wrote (contents before.inner) before.failed waiting left text fails told)
 
 -- some bytes, and some more
 pub tells_next : (before between behind : Telling) (bytes more : List ℕ) → TellsMore before between bytes → TellsMore between behind more →
