@@ -1,9 +1,9 @@
 -- A device has failed exactly where a step of the whole has found it so.
-use Rattle.std.proofs.Common.{◌≡◌, ◌↔◌, ℕ, List, Option, refl, Bool, false, Result, Err, IsTrue, IsErrOf, IfErr, ap, subst, ◌∙◌}
+use Rattle.std.proofs.Common.{◌≡◌, ◌↔◌, ℕ, List, Option, refl, Bool, false, Result, Ok, Err, IsTrue, IsErrOf, IfErr, ap, subst, ◌∙◌}
 use Rattle.text_words.specs.declared.fault.TextFault.{TextFault}
 use Rattle.text_words.specs.declared.fault.TextFault.TheVariants.{At, Memory as TextMemory}
 use Rattle.command_streams.specs.declared.fault.CliFault.{CliFault}
-use Rattle.command_streams.specs.declared.fault.CliFault.TheVariants.{Read, Write}
+use Rattle.command_streams.specs.declared.fault.CliFault.TheVariants.{Read, Write, Memory}
 use Rattle.command_streams.specs.Faults.{fault_of_text}
 use Rattle.command_streams.specs.Streams.{StopsWriting}
 
@@ -22,6 +22,19 @@ module _ {U : Type 0} (whole : Result U CliFault) (told : CliFault) (failed : Bo
   -- no fault of the whole is that of the device, which has not failed
   pub never_failed : (Faults : CliFault → Type 0) → (Faults told → ⊥) → IfErr whole Faults → failed ≡ false → IsErrOf whole told ↔ IsTrue failed
   never_failed Faults other faults fresh = (λ tells. absurd (other (subst (λ (r : Result U CliFault). IfErr r Faults) tells faults)), λ tells. cc)
+
+module _ {U : Type 0} (failed : Bool) where
+  -- there was no memory, and the reader has not failed
+  pub memory_failed : (whole : Result U CliFault) (fault : CliFault) → whole ≡ Err fault → fault ≡ Memory → failed ≡ false → IsErrOf whole Read ↔ IsTrue failed
+  memory_failed whole fault is memory fresh = none_failed whole Read failed fault is (λ told. cc) fresh
+
+  -- the whole went well
+  pub all_well : (told : CliFault) (result : U) → failed ≡ false → IsErrOf (Ok result) told ↔ IsTrue failed
+  all_well told result fresh = (λ tells. cc, λ tells. cc)
+
+  -- the fault of the whole is the device's exactly where that has failed
+  pub fault_failed : (told fault : CliFault) → (fault ≡ told ↔ IsTrue failed) → IsErrOf {T = U} (Err fault) told ↔ IsTrue failed
+  fault_failed told fault device = (λ tells. device.0 cc, λ tells. ap (λ (f : CliFault). Err f) (device.1 tells))
 
 -- the fault of a text is none of a reader
 pub text_unread : (fault : TextFault) → fault_of_text fault ≡ Read → ⊥

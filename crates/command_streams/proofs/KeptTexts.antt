@@ -174,6 +174,17 @@ module _ {A : Type 0} (head : List ℕ) (before now : Option (List ℕ)) (called
     short = omega (arith, is.short, ap length same);
   }
 
+  -- to the end, and nothing waits behind the plain lines
+  pub found_plain : (front : List ℕ) (count : ℕ) (known : Contents) → front ≡ take found.end head → count ≡ found.count → known ≡ contents found.trace
+      → found.waiting.items ≡ [] → found.is_ended ≡ true → IsReadFrom head before now (rejoined front count known)
+  found_plain front count known front_is count_is known_is none ended =
+      let same : rejoined front count known ≡ restored head found = rw (front_is, count_is, known_is, none) (sym (append-nil _)) in
+      found_all (rejoined front count known) same ended
+
+  pub found_kept : (front : List ℕ) (count : ℕ) (known : Contents) → front ≡ take found.end head → count ≡ found.count → known ≡ contents found.trace
+      → IsPlainText front count known
+  found_kept front count known front_is count_is known_is = rw (front_is, count_is, known_is) is.plain
+
   -- and more behind it
   pub found_more : (next : Option (List ℕ)) (bytes text : List ℕ) → bytes ≡ restored head found → IsReadFrom bytes now next text → IsReadFrom head before next text
   found_more next bytes text same from first taken = from first (found_taken bytes first same taken)

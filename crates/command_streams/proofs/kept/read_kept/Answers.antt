@@ -1,8 +1,11 @@
-use Rattle.std.proofs.Common.{◌≡◌, ℕ, List, length, refl, ap, arith}
+use Rattle.std.proofs.Common.{◌≡◌, ◌∙◌, ℕ, List, Err, length, refl, ap, arith}
 use Rattle.std.specs.Io.KnownBytes.{Consumes}
 use Rattle.std.proofs.lemmas.Result.{err_from_is_err_and, IfOk-weaker, IfErr-weaker}
 use Rattle.command_streams.specs.Watched.{held, calls_of}
-use Rattle.command_streams.proofs.Bytes.{uncalled, called_both, stops_first}
+use Rattle.command_streams.specs.declared.fault.CliFault.{CliFault}
+use Rattle.command_streams.specs.declared.fault.CliFault.TheVariants.{Read}
+use Rattle.command_streams.proofs.Failing.{step_failed, memory_failed, all_well}
+use Rattle.command_streams.proofs.Bytes.{uncalled, called_both, called_within, stops_first}
 use Rattle.command_streams.proofs.Reading.{head_read, head_whole}
 use Rattle.command_streams.proofs.kept.read_kept.Goals as goal
 
@@ -95,3 +98,59 @@ returns-clause-calls g c =
     let more = rw same at c.read_rest.ensures.calls in
     called_both _ _ _ (calls_of c.args.input.now) (calls_of c.read_until.new.input) (calls_of c.read_rest.new.input)
     (omega (arith, c.in_ok-read_until.ensures.taken.short)) (c.in_ok-read_until.ensures.counted c.if-not-branch.false) more
+
+pub returns-in_err-buffer-clause-failed : goal.returns-in_err-buffer-clause-failed
+returns-in_err-buffer-clause-failed g c =
+    let gone = err_from_is_err_and c.from_residual.result c.from_residual.ensures.1 in
+    memory_failed _ _ gone.0 gone.1 gone.2 c.requires
+
+pub returns-in_err-read_until-clause-failed : goal.returns-in_err-read_until-clause-failed
+returns-in_err-read_until-clause-failed g c =
+    let gone = err_from_is_err_and c.from_residual-in_err-read_until.result c.from_residual-in_err-read_until.ensures.1 in
+    step_failed _ Read _ c.in_err-read_until.field-0.0 (gone.1 ∙ ap (λ (f : CliFault). Err f) gone.2) c.in_err-read_until.ensures.failed
+
+pub returns-then-not-branch-clause-failed : goal.returns-then-not-branch-clause-failed
+returns-then-not-branch-clause-failed g c = all_well _ Read _ c.in_ok-read_until.ensures.fresh
+
+pub returns-in_err-found-clause-failed : goal.returns-in_err-found-clause-failed
+returns-in_err-found-clause-failed g c =
+    let gone = err_from_is_err_and c.from_residual-in_err-found.result c.from_residual-in_err-found.ensures.1 in
+    step_failed _ Read _ c.in_err-found.field-0.0 (gone.1 ∙ ap (λ (f : CliFault). Err f) gone.2) c.in_err-found.ensures.failed
+
+pub returns-in-Some-clause-failed : goal.returns-in-Some-clause-failed
+returns-in-Some-clause-failed g c = c.keep_found.ensures.failed
+
+pub returns-clause-failed : goal.returns-clause-failed
+returns-clause-failed g c = c.read_rest.ensures.failed
+
+pub returns-in_err-read_until-clause-calls : goal.returns-in_err-read_until-clause-calls
+returns-in_err-read_until-clause-calls g c =
+    called_within _ _ (calls_of c.args.input.now) (calls_of c.read_until.new.input) (omega arith) c.in_err-read_until.ensures.calls
+
+pub returns-then-not-branch-clause-calls : goal.returns-then-not-branch-clause-calls
+returns-then-not-branch-clause-calls g c = called_within _ _ (calls_of c.args.input.now) (calls_of c.read_until.new.input) (omega arith) c.in_ok-read_until.ensures.calls
+
+pub read_until-requires-clause-fresh : goal.read_until-requires-clause-fresh
+read_until-requires-clause-fresh g c = c.requires
+
+pub read_behind-requires-clause-fresh : goal.read_behind-requires-clause-fresh
+read_behind-requires-clause-fresh g c = c.in_ok-read_until.ensures.fresh
+
+pub read_behind-requires-clause-short : goal.read_behind-requires-clause-short
+read_behind-requires-clause-short g c =
+    let long : length c.as_slice.result.now ≡ length c.read_until.new.text.items = ap length c.as_slice.ensures.value in
+    omega (arith, long, c.in_ok-read_until.ensures.taken.short)
+
+pub keep_found-requires-clause-fresh : goal.keep_found-requires-clause-fresh
+keep_found-requires-clause-fresh g c = c.in_ok-found.ensures.fresh
+
+pub keep_found-requires-clause-found : goal.keep_found-requires-clause-found
+keep_found-requires-clause-found g c =
+    let slice : c.as_slice.result.now ≡ c.read_until.new.text.items = c.as_slice.ensures.value in
+    (g.R.Read.remaining (held c.read_until.new.input), calls_of c.read_until.new.input, rw (c.in-Some.is, slice) at c.in_ok-found.ensures.found)
+
+pub read_rest-requires-clause-fresh : goal.read_rest-requires-clause-fresh
+read_rest-requires-clause-fresh g c = c.in_ok-found.ensures.fresh
+
+pub read_rest-requires-clause-short : goal.read_rest-requires-clause-short
+read_rest-requires-clause-short g c = omega (arith, c.in_ok-read_until.ensures.taken.short)

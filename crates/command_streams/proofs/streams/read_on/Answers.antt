@@ -5,7 +5,7 @@ use Rattle.command_streams.specs.Watched.{held, calls_of}
 use Rattle.command_streams.proofs.Bytes.{uncalled, called_both}
 use Rattle.command_streams.specs.declared.fault.CliFault.{CliFault}
 use Rattle.command_streams.specs.declared.fault.CliFault.TheVariants.{Read}
-use Rattle.command_streams.proofs.Failing.{step_failed, none_failed, text_unread}
+use Rattle.command_streams.proofs.Failing.{step_failed, none_failed, all_well, fault_failed, text_unread}
 use Rattle.command_streams.proofs.Reading.{IsReadOn, on_first, on_read, on_taken, on_end, on_fault, on_stop, on_away}
 use Rattle.command_streams.proofs.streams.read_on.Goals as goal
 
@@ -156,13 +156,10 @@ pub skip_rest-requires-clause-room : goal.skip_rest-requires-clause-room
 skip_rest-requires-clause-room g c = omega (arith, c.read_until.auto.piece, c.loop-text.auto.piece, c.requires.room)
 
 pub returns-in-Err-clause-failed : goal.returns-in-Err-clause-failed
-returns-in-Err-clause-failed g c = (
-  λ is. let same : c.skip_rest.result ≡ Read = cc in c.skip_rest.ensures.failed.0 same,
-  λ is. ap (λ (f : CliFault). Err f) (c.skip_rest.ensures.failed.1 is),
-)
+returns-in-Err-clause-failed g c = fault_failed _ Read c.skip_rest.result c.skip_rest.ensures.failed
 
 pub returns-in-Ok-end-clause-failed : goal.returns-in-Ok-end-clause-failed
-returns-in-Ok-end-clause-failed g c = let fresh = c.in_ok-read_until.ensures.fresh in (λ is. cc, λ is. cc)
+returns-in-Ok-end-clause-failed g c = all_well _ Read _ c.in_ok-read_until.ensures.fresh
 
 pub returns-clause-failed : goal.returns-clause-failed
 returns-clause-failed g c =

@@ -3,7 +3,7 @@ use Rattle.std.proofs.lemmas.Result.{err_from_is_err_and}
 use Rattle.command_streams.specs.Watched.{held, calls_of}
 use Rattle.command_streams.specs.declared.fault.CliFault.{CliFault}
 use Rattle.command_streams.specs.declared.fault.CliFault.TheVariants.{Read}
-use Rattle.command_streams.proofs.Failing.{step_failed, none_failed}
+use Rattle.command_streams.proofs.Failing.{step_failed, memory_failed, all_well}
 use Rattle.command_streams.proofs.Bytes.{uncalled, called_within, pieces_all, stops_first}
 use Rattle.command_streams.proofs.streams.read_text.Goals as goal
 
@@ -24,7 +24,7 @@ returns-clause-ok g c =
 pub returns-in_err-buffer-clause-failed : goal.returns-in_err-buffer-clause-failed
 returns-in_err-buffer-clause-failed g c =
     let gone = err_from_is_err_and c.from_residual.result c.from_residual.ensures.1 in
-    none_failed _ Read _ gone.0 gone.1 (λ is. cc) c.requires
+    memory_failed _ _ gone.0 gone.1 gone.2 c.requires
 
 pub read_until-requires-clause-fresh : goal.read_until-requires-clause-fresh
 read_until-requires-clause-fresh g c = c.requires
@@ -35,7 +35,7 @@ returns-in_err-read_until-clause-failed g c =
     step_failed _ Read _ c.in_err-read_until.field-0.0 (gone.1 ∙ ap (λ (f : CliFault). Err f) gone.2) c.in_err-read_until.ensures.failed
 
 pub returns-clause-failed : goal.returns-clause-failed
-returns-clause-failed g c = let fresh = c.in_ok-read_until.ensures.fresh in (λ is. cc, λ is. cc)
+returns-clause-failed g c = all_well _ Read _ c.in_ok-read_until.ensures.fresh
 
 pub returns-in_err-read_until-clause-calls : goal.returns-in_err-read_until-clause-calls
 returns-in_err-read_until-clause-calls g c =

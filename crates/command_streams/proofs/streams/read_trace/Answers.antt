@@ -5,7 +5,7 @@ use Rattle.command_streams.proofs.Bytes.{uncalled, called_within, called_both, s
 use Rattle.command_streams.specs.declared.fault.CliFault.{CliFault}
 use Rattle.command_streams.specs.declared.fault.CliFault.TheVariants.{Read}
 use Rattle.command_streams.specs.Streams.{IsFaultOf}
-use Rattle.command_streams.proofs.Failing.{step_failed, none_failed, never_failed}
+use Rattle.command_streams.proofs.Failing.{step_failed, memory_failed, never_failed, fault_failed}
 use Rattle.command_streams.proofs.Reading.{head_read, head_whole, rest_whole, rest_stops, parsed, not_parsed, begun_read, begun_stops}
 use Rattle.command_streams.proofs.streams.read_trace.Goals as goal
 
@@ -165,10 +165,7 @@ pub returns-clause-failed : goal.returns-clause-failed
 returns-clause-failed g c = never_failed c.parse_trace-2.result Read _ (IsFaultOf c.read_until-2.new.text.items) (λ is. is) c.parse_trace-2.ensures.fault c.in_ok-read_until-2.ensures.fresh
 
 pub returns-in-Err-clause-failed : goal.returns-in-Err-clause-failed
-returns-in-Err-clause-failed g c = (
-  λ is. let same : c.skip_rest.result ≡ Read = cc in c.skip_rest.ensures.failed.0 same,
-  λ is. ap (λ (f : CliFault). Err f) (c.skip_rest.ensures.failed.1 is),
-)
+returns-in-Err-clause-failed g c = fault_failed _ Read c.skip_rest.result c.skip_rest.ensures.failed
 
 pub returns-in-Ok-Some-clause-failed : goal.returns-in-Ok-Some-clause-failed
 returns-in-Ok-Some-clause-failed g c = c.read_on.ensures.failed
@@ -186,7 +183,7 @@ returns-in_err-read_until-2-clause-failed g c =
 pub returns-in_err-text-in-Ok-Some-clause-failed : goal.returns-in_err-text-in-Ok-Some-clause-failed
 returns-in_err-text-in-Ok-Some-clause-failed g c =
     let gone = err_from_is_err_and c.from_residual-in_err-text-in-Ok-Some.result c.from_residual-in_err-text-in-Ok-Some.ensures.1 in
-    none_failed _ Read _ gone.0 gone.1 (λ is. cc) c.in_ok-read_until.ensures.fresh
+    memory_failed _ _ gone.0 gone.1 gone.2 c.in_ok-read_until.ensures.fresh
 
 pub returns-then-not-branch-clause-failed : goal.returns-then-not-branch-clause-failed
 returns-then-not-branch-clause-failed g c = never_failed c.parse_trace.result Read _ (IsFaultOf c.read_until.new.text.items) (λ is. is) c.parse_trace.ensures.fault c.in_ok-read_until.ensures.fresh
