@@ -64,7 +64,7 @@ loop-text-preserved g c =
       fresh = c.in_ok-read_until.ensures.fresh;
       grown = omega (arith, inv.grown, long, longer, left, dropped, within);
       calls = called_both _ _ _ (calls_of c.args.input.now) (calls_of c.loop-text.input) (calls_of c.read_until.new.input)
-          (omega (arith, inv.grown, long, longer, left, dropped, within)) inv.calls (c.in_ok-read_until.ensures.counted (search rules));
+          (omega (arith, inv.grown, long, longer, left, dropped, within)) inv.calls (c.in_ok-read_until.ensures.counted c.if-branch.true);
     }
 
 pub returns-in-Err-clause-fault : goal.returns-in-Err-clause-fault
@@ -91,7 +91,7 @@ returns-in-Err-clause-calls g c =
     called_both _ _ _ (calls_of c.args.input.now) (calls_of c.read_until.new.input) (calls_of c.skip_rest.new.input)
     (omega (arith, inv.grown, pieces.short, long, longer))
     (called_both (c.loop-text.count + length c.read_until.new.text.items - (c.args.done + length c.args.text.items)) _ _ (calls_of c.args.input.now) (calls_of c.loop-text.input) (calls_of c.read_until.new.input)
-    (omega (arith, inv.grown, long, longer)) inv.calls (c.in_ok-read_until.ensures.counted (search rules)))
+    (omega (arith, inv.grown, long, longer)) inv.calls (c.in_ok-read_until.ensures.counted c.if-branch.true))
     c.skip_rest.ensures.calls
 
 pub returns-in-Ok-end-clause-ok : goal.returns-in-Ok-end-clause-ok
@@ -105,7 +105,7 @@ returns-in-Ok-end-clause-ok g c bytes counted is =
     let on : IsReadOn (bytes ++ c.args.text.items) before next c.loop-text.count c.loop-text.begun new =
     on_read (bytes ++ c.args.text.items) before now next c.loop-text.count c.loop-text.size c.loop-text.begun c.loop-text.text.items new _
     pieces (c.loop-text.invariant.read bytes counted is) in
-    on_end (bytes ++ c.args.text.items) before next c.loop-text.count c.loop-text.begun new on _ pieces.short (pieces.end (search rules))
+    on_end (bytes ++ c.args.text.items) before next c.loop-text.count c.loop-text.begun new on _ pieces.short (pieces.end c.if-branch.false)
     (rw slice at (c.in-Ok-end.ensures on.bytes on.begun_with))
 
 pub returns-in-Ok-end-clause-calls : goal.returns-in-Ok-end-clause-calls
@@ -126,7 +126,7 @@ returns-clause-fault g c bytes counted is =
     on_read (bytes ++ c.args.text.items) before now next c.loop-text.count c.loop-text.size c.loop-text.begun c.loop-text.text.items new _
     pieces (c.loop-text.invariant.read bytes counted is) in
     rw c.from.ensures
-    (on_fault (bytes ++ c.args.text.items) before next c.loop-text.count c.loop-text.begun new on _ pieces.short (pieces.end (search rules))
+    (on_fault (bytes ++ c.args.text.items) before next c.loop-text.count c.loop-text.begun new on _ pieces.short (pieces.end c.if-branch.false)
     (rw slice at (c.in-Err-end.ensures on.bytes on.begun_with)))
 
 pub returns-clause-calls : goal.returns-clause-calls
@@ -191,7 +191,7 @@ loop-text-smaller g c =
     pieces (inv.read c.requires.begun.0 c.requires.begun.1 c.requires.begun.2) in
     let within = (rw slice at (c.in-Ok.ensures first.bytes first.begun_with)).0 in
     let left = ap length c.remove_front.ensures in
-    omega (arith, inv.size, pieces.reached (search rules), pieces.short, left, length-drop c.in-Ok.taken new, within)
+    omega (arith, inv.size, pieces.reached c.if-branch.true, pieces.short, left, length-drop c.in-Ok.taken new, within)
 
 pub overflow_add-count : goal.overflow_add-count
 overflow_add-count g c =
