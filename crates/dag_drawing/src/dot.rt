@@ -1,6 +1,6 @@
 //! The text of a drawing in Graphviz's language.
 
-ghost use Rattle.std.specs.Prelude.{◌≡◌, ◌++◌, OnOk, IfOk, IsTrue, flat_map, map, string_bytes};
+ghost use Rattle.std.specs.Prelude.{◌≡◌, ◌++◌, OnOk, IfOk, IsTrue, codes, decimal, flat_map, map, string_bytes};
 ghost use Rattle.trace_text.specs.Shapes.{is_numbered};
 ghost use Rattle.dag_drawing.specs.Texts.{escaped, kind_word, edge_text, red_text};
 ghost use Rattle.dag_drawing.specs.Labels.{naming_of, title_lines};
@@ -10,6 +10,20 @@ use crate::drawing::{Access, Drawing, Edge, EdgeKind, Race};
 use crate::labels::{Names, node_lines, own_of, race_label};
 use std::alloc::{AllocError, Allocator};
 use text_buffers::{push_number, push_words};
+
+/// Adds two numbers, each behind its words.
+pub fn push_numbers<A: Allocator>(
+    text: &mut Vec<u8, A>,
+    before: &str,
+    one: u64,
+    between: &str,
+    other: u64,
+) -> Result<(), AllocError>
+    ensures { OnOk result (text.new.items ≡ text.old.items ++ before.now ++ decimal one ++ between.now ++ decimal other) }
+{
+    push_number(text, before, one)?;
+    push_number(text, between, other)
+}
 
 /// Adds text as it stands between quotation marks.
 fn push_escaped<A: Allocator>(text: &mut Vec<u8, A>, name: &str) -> Result<(), AllocError>
@@ -88,13 +102,20 @@ pub fn word_of(kind: EdgeKind) -> &'static str
     }
 }
 
+/// Adds from which strand an edge leads to which, up to what is written beside it.
+fn push_ends<A: Allocator>(text: &mut Vec<u8, A>, from: u32, to: u32) -> Result<(), AllocError>
+    ensures { OnOk result (text.new.items
+        ≡ text.old.items ++ codes "  " ++ decimal from ++ codes " -> " ++ decimal to ++ codes " [label=\"") }
+{
+    push_numbers(text, "  ", u64::from(from), " -> ", u64::from(to))?;
+    push_words(text, " [label=\"")
+}
+
 /// Adds an edge.
 fn push_edge<A: Allocator>(text: &mut Vec<u8, A>, edge: &Edge) -> Result<(), AllocError>
     ensures { OnOk result (text.new.items ≡ text.old.items ++ edge_text edge.now) }
 {
-    push_number(text, "  ", u64::from(edge.from))?;
-    push_number(text, " -> ", u64::from(edge.to))?;
-    push_words(text, " [label=\"")?;
+    push_ends(text, edge.from, edge.to)?;
     push_words(text, word_of(edge.kind))?;
     push_words(text, "\"];\n")
 }
@@ -126,11 +147,8 @@ fn push_arc<A: Allocator + Copy>(
     requires numbered { IsTrue (is_numbered 0 names.now.mems.now) }
     ensures { OnOk result (text.new.items ≡ text.old.items ++ arc_text (naming_of names.now) race.now) }
 {
-    let label = race_label(alloc, names, race)?;
-    push_number(text, "  ", u64::from(race.witness.strand))?;
-    push_number(text, " -> ", u64::from(race.request.strand))?;
-    push_words(text, " [label=\"")?;
-    push_escaped(text, label.as_str())?;
+    push_ends(text, race.witness.strand, race.request.strand)?;
+    push_escaped(text, race_label(alloc, names, race)?.as_str())?;
     push_words(text, red())
 }
 
@@ -159,8 +177,7 @@ fn push_heading<A: Allocator>(text: &mut Vec<u8, A>, runs: &[String<A>]) -> Resu
     }
     push_words(text, "  labelloc=t;\n  label=\"")?;
     push_lines(text, runs)?;
-    push_words(text, "\";\n")?;
-    Ok(())
+    push_words(text, "\";\n")
 }
 
 /// The text of a drawing in Graphviz's language: above the graph what was recorded, a node for each strand, an edge for each edge of the

@@ -1,6 +1,6 @@
 //! The text of a drawing in SVG.
 
-ghost use Rattle.std.specs.Prelude.{◌≡◌, ◌++◌, ◌+◌, ◌-◌, ◌≤◌, OnOk, IfOk, IsTrue, decimal, flat_map, length, map, string_bytes, take};
+ghost use Rattle.std.specs.Prelude.{◌≡◌, ◌++◌, ◌+◌, ◌-◌, ◌≤◌, OnOk, IfOk, IsTrue, codes, decimal, flat_map, length, map, string_bytes, take};
 ghost use Rattle.trace_text.specs.Shapes.{is_numbered};
 ghost use Rattle.dag_drawing.specs.Labels.{naming_of, title_lines};
 ghost use Rattle.dag_drawing.specs.Plans.{plan_of, middle_at, top_at, most_title_lines, most_title_characters};
@@ -8,7 +8,7 @@ ghost use Rattle.dag_drawing.specs.Pictures.{xml_byte, xml_text, cut_text, line_
 ghost use Rattle.dag_drawing.specs.Pictures.{rise, ends_text, curve_text, arc_text, label_text, race_text, races_text, style_text, head_text, title_text};
 ghost use Rattle.dag_drawing.specs.Pictures.{picture_text, svg_text};
 
-use crate::dot::word_of;
+use crate::dot::{push_numbers, word_of};
 use crate::drawing::{Access, Drawing, Edge, Race};
 use crate::labels::{Names, node_lines, own_of, race_label};
 use crate::plan::{
@@ -90,6 +90,45 @@ fn push_lines<A: Allocator>(
     Ok(())
 }
 
+/// Adds from which strand something leads to which, behind words.
+fn push_ends<A: Allocator>(
+    text: &mut Vec<u8, A>,
+    before: &str,
+    from: u32,
+    to: u32,
+) -> Result<(), AllocError>
+    ensures { OnOk result (text.new.items ≡ text.old.items ++ before.now ++ decimal from ++ codes "\" data-to=\"" ++ decimal to) }
+{
+    push_numbers(
+        text,
+        before,
+        u64::from(from),
+        "\" data-to=\"",
+        u64::from(to),
+    )
+}
+
+/// Adds the middle and the height of the top of a strand's box, each behind its words.
+fn push_top<A: Allocator>(
+    text: &mut Vec<u8, A>,
+    before: &str,
+    between: &str,
+    layout: &Layout<A>,
+    strand: u32,
+) -> Result<(), AllocError>
+    ensures { OnOk result (text.new.items
+        ≡ text.old.items ++ before.now ++ decimal (middle_at (plan_of layout.now) strand) ++ between.now ++ decimal (top_at (plan_of layout.now) strand)) }
+{
+    let strand = strand as usize;
+    push_numbers(
+        text,
+        before,
+        layout.middle(strand),
+        between,
+        layout.top(strand),
+    )
+}
+
 /// Adds an edge.
 fn push_edge<A: Allocator>(
     text: &mut Vec<u8, A>,
@@ -98,16 +137,14 @@ fn push_edge<A: Allocator>(
 ) -> Result<(), AllocError>
     ensures { OnOk result (text.new.items ≡ text.old.items ++ edge_text (plan_of layout.now) edge.now) }
 {
+    let from = edge.from;
+    let to = edge.to;
     push_words(text, "<line class=\"")?;
     push_words(text, word_of(edge.kind))?;
-    push_number(text, "\" data-from=\"", u64::from(edge.from))?;
-    push_number(text, "\" data-to=\"", u64::from(edge.to))?;
-    push_number(text, "\" x1=\"", layout.middle(edge.from as usize))?;
-    push_number(text, "\" y1=\"", layout.top(edge.from as usize))?;
-    push_number(text, "\" x2=\"", layout.middle(edge.to as usize))?;
-    push_number(text, "\" y2=\"", layout.top(edge.to as usize))?;
-    push_words(text, "\"/>\n")?;
-    Ok(())
+    push_ends(text, "\" data-from=\"", from, to)?;
+    push_top(text, "\" x1=\"", "\" y1=\"", layout, from)?;
+    push_top(text, "\" x2=\"", "\" y2=\"", layout, to)?;
+    push_words(text, "\"/>\n")
 }
 
 /// Adds edges.
@@ -141,12 +178,17 @@ fn push_rect<A: Allocator>(
     ensures { OnOk result (text.new.items ≡ text.old.items ++ rect_text (plan_of layout.now) strand lines) }
 {
     push_number(text, "<g id=\"strand-", strand as u64)?;
-    push_number(text, "\">\n<rect x=\"", layout.left(strand))?;
-    push_number(text, "\" y=\"", layout.top(strand))?;
-    push_number(text, "\" width=\"", layout.box_width())?;
-    push_number(text, "\" height=\"", box_height(lines))?;
-    push_words(text, "\"/>\n")?;
-    Ok(())
+    let left = layout.left(strand);
+    push_numbers(text, "\">\n<rect x=\"", left, "\" y=\"", layout.top(strand))?;
+    let width = layout.box_width();
+    push_numbers(
+        text,
+        "\" width=\"",
+        width,
+        "\" height=\"",
+        box_height(lines),
+    )?;
+    push_words(text, "\"/>\n")
 }
 
 /// Adds a strand with the lines of its box.
@@ -162,8 +204,7 @@ fn push_node<A: Allocator>(
     push_number(text, "<text y=\"", layout.top(strand))?;
     push_words(text, "\">")?;
     push_lines(text, MOST_CHARACTERS, layout.left(strand) + 8, lines)?;
-    push_words(text, "</text>\n</g>\n")?;
-    Ok(())
+    push_words(text, "</text>\n</g>\n")
 }
 
 /// Adds strands, each with its own of the accesses.
@@ -196,20 +237,6 @@ fn rise(number: usize) -> u64
     24 + 12 * (number % 5) as u64
 }
 
-/// Adds between which strands a race is.
-fn push_ends<A: Allocator>(text: &mut Vec<u8, A>, race: &Race) -> Result<(), AllocError>
-    ensures { OnOk result (text.new.items ≡ text.old.items ++ ends_text race.now) }
-{
-    push_number(
-        text,
-        "<g class=\"race\" data-from=\"",
-        u64::from(race.witness.strand),
-    )?;
-    push_number(text, "\" data-to=\"", u64::from(race.request.strand))?;
-    push_words(text, "\">\n")?;
-    Ok(())
-}
-
 /// Adds the arc from one place to another, by a height above each.
 fn push_curve<A: Allocator>(
     text: &mut Vec<u8, A>,
@@ -218,16 +245,11 @@ fn push_curve<A: Allocator>(
 ) -> Result<(), AllocError>
     ensures { OnOk result (text.new.items ≡ text.old.items ++ curve_text from.0 from.1 from.2 to.0 to.1 to.2) }
 {
-    push_number(text, "<path d=\"M ", from.0)?;
-    push_number(text, " ", from.1)?;
-    push_number(text, " C ", from.0)?;
-    push_number(text, " ", from.2)?;
-    push_number(text, " ", to.0)?;
-    push_number(text, " ", to.2)?;
-    push_number(text, " ", to.0)?;
-    push_number(text, " ", to.1)?;
-    push_words(text, "\"/>\n")?;
-    Ok(())
+    push_numbers(text, "<path d=\"M ", from.0, " ", from.1)?;
+    push_numbers(text, " C ", from.0, " ", from.2)?;
+    push_numbers(text, " ", to.0, " ", to.2)?;
+    push_numbers(text, " ", to.0, " ", to.1)?;
+    push_words(text, "\"/>\n")
 }
 
 /// The place of an arc's end at a strand, and the height above it.
@@ -240,20 +262,24 @@ fn end_of<A: Allocator>(layout: &Layout<A>, number: usize, strand: usize) -> (u6
     (layout.middle(strand), top, top.saturating_sub(rise(number)))
 }
 
-/// Adds the arc from one strand to another.
+/// Adds between which strands a race is, and the arc from one to the other.
 fn push_arc<A: Allocator>(
     text: &mut Vec<u8, A>,
     layout: &Layout<A>,
     number: usize,
-    from: usize,
-    to: usize,
+    race: &Race,
 ) -> Result<(), AllocError>
-    ensures { OnOk result (text.new.items ≡ text.old.items ++ arc_text (plan_of layout.now) number from to) }
+    ensures { OnOk result (text.new.items ≡ text.old.items ++ ends_text race.now
+        ++ arc_text (plan_of layout.now) number race.now.witness.strand race.now.request.strand) }
 {
+    let from = race.witness.strand;
+    let to = race.request.strand;
+    push_ends(text, "<g class=\"race\" data-from=\"", from, to)?;
+    push_words(text, "\">\n")?;
     push_curve(
         text,
-        end_of(layout, number, from),
-        end_of(layout, number, to),
+        end_of(layout, number, from as usize),
+        end_of(layout, number, to as usize),
     )
 }
 
@@ -262,20 +288,21 @@ fn push_label<A: Allocator>(
     text: &mut Vec<u8, A>,
     layout: &Layout<A>,
     number: usize,
-    from: usize,
-    to: usize,
+    race: &Race,
     label: &str,
 ) -> Result<(), AllocError>
-    ensures { OnOk result (text.new.items ≡ text.old.items ++ label_text (plan_of layout.now) number from to label.now) }
+    ensures { OnOk result (text.new.items
+        ≡ text.old.items ++ label_text (plan_of layout.now) number race.now.witness.strand race.now.request.strand label.now) }
 {
+    let from = race.witness.strand as usize;
+    let to = race.request.strand as usize;
     let left = (layout.middle(from) + layout.middle(to)) / 2;
     let top = (layout.top(from) + layout.top(to)) / 2;
-    push_number(text, "<text x=\"", left)?;
-    push_number(text, "\" y=\"", top.saturating_sub(rise(number)))?;
+    let above = top.saturating_sub(rise(number));
+    push_numbers(text, "<text x=\"", left, "\" y=\"", above)?;
     push_words(text, "\">")?;
     push_xml(text, label.as_bytes())?;
-    push_words(text, "</text>\n</g>\n")?;
-    Ok(())
+    push_words(text, "</text>\n</g>\n")
 }
 
 /// Adds a race.
@@ -290,13 +317,9 @@ fn push_race<A: Allocator + Copy>(
     requires numbered { IsTrue (is_numbered 0 names.now.mems.now) }
     ensures { OnOk result (text.new.items ≡ text.old.items ++ race_text (plan_of layout.now) (naming_of names.now) number race.now) }
 {
-    let from = race.witness.strand as usize;
-    let to = race.request.strand as usize;
+    push_arc(text, layout, number, race)?;
     let label = race_label(alloc, names, race)?;
-    push_ends(text, race)?;
-    push_arc(text, layout, number, from, to)?;
-    push_label(text, layout, number, from, to, label.as_str())?;
-    Ok(())
+    push_label(text, layout, number, race, label.as_str())
 }
 
 /// Adds races.
@@ -327,17 +350,11 @@ fn style() -> &'static str
 fn push_head<A: Allocator>(text: &mut Vec<u8, A>, width: u64, height: u64) -> Result<(), AllocError>
     ensures { OnOk result (text.new.items ≡ text.old.items ++ head_text width height) }
 {
-    push_number(
-        text,
-        "<svg xmlns=\"http://www.w3.org/2000/svg\" width=\"",
-        width,
-    )?;
-    push_number(text, "\" height=\"", height)?;
-    push_number(text, "\" viewBox=\"0 0 ", width)?;
-    push_number(text, " ", height)?;
+    let before = "<svg xmlns=\"http://www.w3.org/2000/svg\" width=\"";
+    push_numbers(text, before, width, "\" height=\"", height)?;
+    push_numbers(text, "\" viewBox=\"0 0 ", width, " ", height)?;
     push_words(text, "\">\n")?;
-    push_words(text, style())?;
-    Ok(())
+    push_words(text, style())
 }
 
 /// The lines of the title that there is room for.
@@ -361,8 +378,7 @@ fn push_title<A: Allocator>(text: &mut Vec<u8, A>, runs: &[String<A>]) -> Result
     }
     push_words(text, "<text id=\"title\" y=\"8\">")?;
     push_lines(text, MOST_TITLE_CHARACTERS, 16, shown_of(runs))?;
-    push_words(text, "</text>\n")?;
-    Ok(())
+    push_words(text, "</text>\n")
 }
 
 /// Adds a drawing by its layout.
