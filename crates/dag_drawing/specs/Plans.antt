@@ -4,6 +4,7 @@ use Rattle.dag_drawing.specs.declared.drawing.Access.{Access}
 use Rattle.dag_drawing.specs.declared.drawing.Drawing.{Drawing}
 use Rattle.dag_drawing.specs.declared.drawing.Edge.{Edge}
 use Rattle.dag_drawing.specs.declared.plan.Layout.{Layout}
+use Rattle.dag_drawing.specs.declared.plan.Measures.{Measures}
 use Rattle.dag_drawing.specs.Texts.{count_own}
 use Rattle.dag_drawing.specs.Labels.{Naming, node_lines, title_lines}
 
@@ -106,11 +107,21 @@ plan_of layout = record {
   counts = layout.counts.items;
   widest = layout.widest;
   deepest = layout.deepest;
-  half = layout.half;
-  across = layout.across;
-  down = layout.down;
-  above = layout.above;
-  title = layout.title;
+  half = layout.measures.half;
+  across = layout.measures.across;
+  down = layout.measures.down;
+  above = layout.measures.above;
+  title = layout.measures.title;
+}
+
+-- the measures of a picture with lines so long, so many lines in a box, and these lines of a title
+abbrev pub measures_by : ℕ → ℕ → List (List ℕ) → Measures
+measures_by characters lines title = record {
+  half = 4 * capped most_characters characters + 8;
+  across = 4 * capped most_characters characters + 24;
+  down = 16 * capped most_box_lines lines + 80;
+  above = 16 * capped most_title_lines (length title) + 96;
+  title = 8 * capped most_title_characters (longest 0 title) + 32;
 }
 
 -- Numbers of strands are below this where at most 10,000 have begun: two begin at each spawn, and one number more is reserved for a join.

@@ -4,7 +4,7 @@ ghost use Rattle.std.specs.Prelude.{◌≡◌, ◌+◌, ◌-◌, ◌*◌, ◌<�
 ghost use Rattle.trace_text.specs.Shapes.{is_numbered};
 ghost use Rattle.dag_drawing.specs.Labels.{naming_of, title_lines};
 ghost use Rattle.dag_drawing.specs.Plans.{stepped, capped, deepened, depths_by, counted, counts_by, columns_by, greatest, longest, longest_line, most_lines};
-ghost use Rattle.dag_drawing.specs.Plans.{plan_of, plan, last_of, left_at, middle_at, top_at, width_of, height_of};
+ghost use Rattle.dag_drawing.specs.Plans.{measures_by, plan_of, plan, last_of, left_at, middle_at, top_at, width_of, height_of};
 
 use crate::drawing::{Access, Drawing, Edge};
 use crate::labels::{Names, node_lines, own_of};
@@ -28,18 +28,9 @@ const MOST_NUMBERS: u16 = 20_000;
 /// The most strands of a level, and of levels.
 const MOST: u32 = 10_000;
 
-/// Where the boxes of a picture stand.
-pub struct Layout<A: Allocator> {
-    /// The levels of strands, by their numbers.
-    pub depths: Vec<u32, A>,
-    /// Their columns.
-    pub columns: Vec<u32, A>,
-    /// How many strands stand on each level.
-    pub counts: Vec<u32, A>,
-    /// The most strands of a level.
-    pub widest: u32,
-    /// The last level.
-    pub deepest: u32,
+/// The measures of a picture.
+#[derive(Clone, Copy)]
+pub struct Measures {
     /// Half of a box's width.
     pub half: u16,
     /// Half of the way from a box to the next one.
@@ -52,6 +43,22 @@ pub struct Layout<A: Allocator> {
     pub title: u16,
 }
 
+/// Where the boxes of a picture stand.
+pub struct Layout<A: Allocator> {
+    /// The levels of strands, by their numbers.
+    pub depths: Vec<u32, A>,
+    /// Their columns.
+    pub columns: Vec<u32, A>,
+    /// How many strands stand on each level.
+    pub counts: Vec<u32, A>,
+    /// The most strands of a level.
+    pub widest: u32,
+    /// The last level.
+    pub deepest: u32,
+    /// The measures of the picture.
+    pub measures: Measures,
+}
+
 impl<A: Allocator> Drop for Layout<A> {
     fn drop(self) {
         let Layout {
@@ -60,11 +67,7 @@ impl<A: Allocator> Drop for Layout<A> {
             counts: _,
             widest: _,
             deepest: _,
-            half: _,
-            across: _,
-            down: _,
-            above: _,
-            title: _,
+            measures: _,
         } = self;
     }
 }
@@ -221,6 +224,20 @@ fn sizes_of<A: Allocator + Copy>(
     })
 }
 
+/// The measures of a picture with boxes of these sizes below a title.
+fn measures_of<A: Allocator>(sizes: Sizes, title: &[String<A>]) -> Measures
+    ensures { result ≡ measures_by sizes.length sizes.lines (map string_bytes title.now) }
+{
+    let characters = at_most(MOST_CHARACTERS, sizes.length);
+    Measures {
+        half: 4 * characters + 8,
+        across: 4 * characters + 24,
+        down: 16 * at_most(MOST_BOX_LINES, sizes.lines) + 80,
+        above: 16 * at_most(MOST_TITLE_LINES, title.len()) + 96,
+        title: 8 * at_most(MOST_TITLE_CHARACTERS, longest(0, title)) + 32,
+    }
+}
+
 /// The last of some numbers.
 fn last_of(numbers: &[usize]) -> usize
     ensures { result ≡ last_of numbers.now }
@@ -243,24 +260,19 @@ pub fn layout_of<A: Allocator + Copy>(
     let strands = drawing.strands.as_slice();
     let accesses = drawing.accesses.as_slice();
     let sizes = sizes_of(alloc, names, strands, accesses)?;
+    let measures = measures_of(sizes, names.notes.runs());
     let size = usize::from(at_most(MOST_NUMBERS, last_of(strands))) + 1;
     let depths = depths_of(alloc, size, drawing.edges.as_slice())?;
     let mut counts = vec![in alloc; 0u32; size]?;
     let mut columns = vec![in alloc; 0u32; size]?;
     add_all_to_levels(depths.as_slice(), &mut counts, &mut columns, strands);
-    let characters = at_most(MOST_CHARACTERS, sizes.length);
-    let runs = names.notes.runs();
     Ok(Layout {
         widest: greatest(counts.as_slice()),
         deepest: greatest(depths.as_slice()),
         depths,
         columns,
         counts,
-        half: 4 * characters + 8,
-        across: 4 * characters + 24,
-        down: 16 * at_most(MOST_BOX_LINES, sizes.lines) + 80,
-        above: 16 * at_most(MOST_TITLE_LINES, runs.len()) + 96,
-        title: 8 * at_most(MOST_TITLE_CHARACTERS, longest(0, runs)) + 32,
+        measures,
     })
 }
 
@@ -283,14 +295,14 @@ impl<A: Allocator> Layout<A> {
         let count = number_at(self.counts.as_slice(), level);
         let column = number_at(self.columns.as_slice(), strand);
         let steps = u64::from(self.widest.saturating_sub(count)) + 2 * u64::from(column);
-        16 + scale(steps, self.across)
+        16 + scale(steps, self.measures.across)
     }
 
     /// The width of a box.
     pub fn box_width(&self) -> u64
         ensures { result ≡ 2 * (plan_of self.now).half }
     {
-        let half = self.half;
+        let half = self.measures.half;
         2 * u64::from(half)
     }
 
@@ -299,7 +311,7 @@ impl<A: Allocator> Layout<A> {
         ensures value { result ≡ middle_at (plan_of self.now) strand }
         ensures bound { result < 2 ^ 52 }
     {
-        self.left(strand) + u64::from(self.half)
+        self.left(strand) + u64::from(self.measures.half)
     }
 
     /// The top of a strand's box.
@@ -308,21 +320,21 @@ impl<A: Allocator> Layout<A> {
         ensures bound { result < 2 ^ 51 }
     {
         let level = number_at(self.depths.as_slice(), strand);
-        u64::from(self.above) + scale(u64::from(level), self.down)
+        u64::from(self.measures.above) + scale(u64::from(level), self.measures.down)
     }
 
     /// The width of the picture.
     pub fn width(&self) -> u64
         ensures { result ≡ width_of (plan_of self.now) }
     {
-        let boxes = 16 + scale(2 * u64::from(self.widest), self.across);
-        boxes.max(u64::from(self.title))
+        let boxes = 16 + scale(2 * u64::from(self.widest), self.measures.across);
+        boxes.max(u64::from(self.measures.title))
     }
 
     /// Its height.
     pub fn height(&self) -> u64
         ensures { result ≡ height_of (plan_of self.now) }
     {
-        u64::from(self.above) + scale(u64::from(self.deepest) + 1, self.down)
+        u64::from(self.measures.above) + scale(u64::from(self.deepest) + 1, self.measures.down)
     }
 }

@@ -31,6 +31,33 @@ impl<A: Allocator> Drop for Walk<A> {
     }
 }
 
+/// Adds the marks of the strands of a spawn, and that of its join where it opens a block.
+fn add_marks<A: Allocator>(begun: &mut Vec<bool, A>, first: bool) -> Result<(), AllocError>
+    ensures { OnOk result (begun.new.items ≡ begun.old.items ++ marks_of first) }
+{
+    if first {
+        begun.extend_from_slice(&[true, true, false])
+    } else {
+        begun.extend_from_slice(&[true, true])
+    }
+}
+
+/// Adds the blocks round the strands of a spawn, and that round its join where it opens a block.
+fn add_blocks<A: Allocator>(
+    blocks: &mut Vec<Option<u32>, A>,
+    spawned: Spawned,
+    outer: Option<u32>,
+) -> Result<(), AllocError>
+    ensures { OnOk result (blocks.new.items ≡ blocks.old.items ++ blocks_of spawned.first spawned.join outer) }
+{
+    let inner = Some(spawned.join);
+    if spawned.first {
+        blocks.extend_from_slice(&[inner, inner, outer])
+    } else {
+        blocks.extend_from_slice(&[inner, inner])
+    }
+}
+
 impl<A: Allocator + Copy> Walk<A> {
     /// What is known before the first entry.
     fn new(alloc: A) -> Result<Walk<A>, AllocError>
@@ -58,15 +85,8 @@ impl<A: Allocator + Copy> Walk<A> {
         ensures edges { self.new.edges.items ≡ self.old.edges.items }
     {
         let outer = self.blocks[strand as usize];
-        self.begun.push(true)?;
-        self.begun.push(true)?;
-        self.blocks.push(Some(spawned.join))?;
-        self.blocks.push(Some(spawned.join))?;
-        if spawned.first {
-            self.begun.push(false)?;
-            self.blocks.push(outer)?;
-        }
-        Ok(())
+        add_marks(&mut self.begun, spawned.first)?;
+        add_blocks(&mut self.blocks, spawned, outer)
     }
 
     /// Adds the edges of a spawn.
