@@ -5,3 +5,4 @@ pub mod Followed
 pub mod Drawn
 pub mod Pushed
 pub mod FirstPlaces
+pub mod Loops
