@@ -13,4 +13,6 @@ pub loop-strand-init : goal.loop-strand-init
 loop-strand-init g c = refl
 
 pub returns : goal.returns
-returns g c = at_end (λ rest. nodes_text (plan_of c.args.layout.now) (naming_of c.args.names.now) rest c.loop-strand.rest.now) _ _ _ _ refl c.loop-strand-test.false c.loop-strand.invariant
+returns g c =
+    at_end (λ rest. nodes_text (plan_of c.args.layout.now) (naming_of c.args.names.now) rest c.loop-strand.rest.now) _ _ _ _ refl
+    c.loop-strand-test.false c.loop-strand.invariant
