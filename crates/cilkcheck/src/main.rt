@@ -12,6 +12,9 @@ ghost use Rattle.command_words.specs.Jobs.{IsInRange};
 ghost use Rattle.command_words.specs.Names.{SparesProgram};
 ghost use Rattle.command_streams.specs.Sources.{unknown_sources};
 
+use command_jobs::{
+    CliFault, Host, INPUT, Job, Watched, check_names, exit_of, perform, read_args,
+};
 use std::env;
 use std::fs::{self, File};
 use std::io::{self, IsTerminal, Read};
@@ -19,9 +22,6 @@ use std::os::unix::fs::MetadataExt;
 use std::process::ExitCode;
 use std::sync::Wait;
 use std::thread::Threads;
-use tool_commands::{
-    CliFault, Host, INPUT, Job, Watched, check_names, exit_of, perform, read_args,
-};
 
 /// The system's standard input and files. No contract knows what they hold, or whether one can be created.
 #[derive(Drop)]

@@ -2,7 +2,7 @@ mod Numbered
 mod Marks
 mod Marking
 mod Theirs
-mod Reversed
+pub mod Reversed
 mod Agreeing
 pub mod Wholes
 mod Faulted

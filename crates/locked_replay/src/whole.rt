@@ -42,8 +42,8 @@ fn is_clean_answer(answer: Answer) -> bool
     !matches!(answer, Answer::Refused { .. } | Answer::Unset)
 }
 
-/// Whether no answer is a refusal.
-fn is_clean<A: Allocator>(entries: &Entries<A>) -> bool
+/// Whether nothing is refused or unset in these entries.
+pub fn is_clean<A: Allocator>(entries: &Entries<A>) -> bool
     ensures { IsTrue result ↔ IsClean entries.now.items }
 {
     if entries.are_clean() {

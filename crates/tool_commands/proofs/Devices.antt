@@ -65,19 +65,3 @@ all_written status failed before after value written read delivered step =
       write_failed = (λ e. cc, λ e. cc);
       unwritten = tt;
     }
-
--- a host that is shown the reader has failed where that has
-pub host_noted : {T W : Type 0} (result : Result T CliFault) (before after : Watched W) (host noted reader : Bool) → noted ≡ (host || reader) → host ≡ false →
-    LeavesDevices result reader before after → LeavesDevices result noted before after
-host_noted result before after host noted reader shown fresh leaves =
-    subst (λ (failed : Bool). LeavesDevices result failed before after) (sym (subst (λ (b : Bool). noted ≡ (b || reader)) fresh shown)) leaves
-
--- a file could not be opened
-pub not_opened : {T W : Type 0} (fault : CliFault) (failed : Bool) (before : Watched W) → fault ≡ Read → failed ≡ true → has_failed before ≡ false →
-    LeavesDevices {T = T} (Err fault) failed before before
-not_opened fault failed before is lacks fresh = record {
-  delivered = tt;
-  read_failed = (λ tells. lacks, λ tells. cc);
-  write_failed = none_failed _ _ _ fault refl (λ other. cc) fresh;
-  unwritten = λ other. refl;
-}

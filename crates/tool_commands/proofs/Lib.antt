@@ -1,7 +1,6 @@
 pub mod RunStatuses
 pub mod CleanReports
 pub mod RunCauses
-mod RunFaults
 mod Answering
 mod DrawingCauses
 mod ElisionCauses
@@ -17,8 +16,6 @@ mod CleanSoFar
 mod DigestedSoFar
 mod DigestStatuses
 mod Unnoted
-mod Explaining
-mod Replaying
 mod Devices
 mod ReadPrograms
 mod Taking

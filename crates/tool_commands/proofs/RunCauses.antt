@@ -3,12 +3,25 @@ use Rattle.std.proofs.Common.{◌≤◌, ℕ, Bool, true, false, if◌then◌els
 use Rattle.std.specs.List.{list_any}
 use Rattle.model_histories.specs.declared.answer.Entry.{Entry}
 use Rattle.program_text.specs.Drafts.{Contents}
+use Rattle.locked_replay.specs.declared.fault.RunFault.{RunFault}
+use Rattle.locked_replay.specs.declared.fault.RunFault.TheVariants as run
+use Rattle.program_runs.specs.Runs.{LacksRun}
 use Rattle.command_streams.specs.declared.fault.CliFault.{CliFault}
 use Rattle.command_streams.specs.declared.fault.CliFault.TheVariants.{Write, Limit, Stopped, Torn, Strange, Memory}
 use Rattle.verdict_lines.specs.VerdictText.{is_refused}
 use Rattle.command_streams.specs.Streams.{StopsWriting}
 use Rattle.command_streams.specs.Readings.{Reading}
-use Rattle.tool_commands.specs.Runs.{IsRunFault, TellsRun, IsProgramRead, IsRan, HasRunCause}
+use Rattle.tool_commands.specs.Programs.{shape_of_program}
+use Rattle.tool_commands.specs.Runs.{fault_of_run, IsRunFault, TellsRun, IsProgramRead, IsRan, HasRunCause}
+
+-- why there is no finished run is why the command has none
+pub run_lacking : (program : Contents) (limit : ℕ) (fault : RunFault) → LacksRun program.functions (shape_of_program program) limit fault →
+    IsRunFault program limit (fault_of_run fault)
+run_lacking program limit run.Limit lacks = lacks
+run_lacking program limit run.Stopped lacks = lacks
+run_lacking program limit run.Torn lacks = lacks
+run_lacking program limit run.Strange lacks = lacks
+run_lacking program limit run.Memory lacks = lacks
 
 -- a program was read, and there is no finished run of it
 pub run_stops : (reader : Reading) (wrote writes : Option (List ℕ)) (limit : ℕ) (program : Contents) (fault : CliFault) → IsProgramRead reader program → IsRunFault program limit fault →

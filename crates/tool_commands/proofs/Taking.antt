@@ -8,7 +8,7 @@ use Rattle.command_streams.specs.Readings.{reading}
 use Rattle.command_streams.specs.Streams.{IsRead, StopsWriting}
 use Rattle.tool_commands.specs.Together.{Together, TakesReading, StopsTaking}
 use Rattle.tool_commands.specs.Several.{Style, manner_in, AreTaken, more, TellsSeveral, StopsSeveral, HasSeveralCause}
-use Rattle.tool_commands.specs.Performed.{lacks_first}
+use Rattle.tool_commands.specs.Several.{lacks_first}
 
 names_at : {X : Type 0} (name : X → List ℕ) (items : List X) (index : ℕ) (one : X) (file : List ℕ) → index < length items → one ≡ get_or items index one → file ≡ name one →
     map name items ≡ map name (take index items) ++ file ∷ map name (drop (index + 1) items)

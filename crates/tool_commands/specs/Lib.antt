@@ -13,5 +13,4 @@ pub mod Sorts
 pub mod Together
 pub mod Cleanness
 pub mod Digested
-pub mod Performed
 pub mod Several

@@ -1,27 +1,18 @@
 -- What is read of a program, and what is written of its run by many workers.
-use Rattle.std.specs.Prelude.{ℕ, ◌≡◌, ◌<◌, ◌≤◌, ◌⊎◌, ◌↔◌, true, Option, List, ◌++◌, length, reverse, codes, IsTrue}
-use Rattle.std.specs.List.{All, flat_map}
-use Rattle.std.specs.List.Sorted.{IsPermutation}
+use Rattle.std.specs.Prelude.{ℕ, ◌≡◌, ◌≤◌, ◌↔◌, Option, List, ◌++◌, length, reverse, codes}
 use Rattle.std.specs.Io.KnownBytes.{Appends}
 use Rattle.text_words.specs.Declarations.{cells_of}
-use Rattle.program_text.specs.declared.program.Program.{Program as ParsedProgram}
 use Rattle.program_text.specs.Drafts.{Contents}
 use Rattle.program_text.specs.Grammar.{TextMeans}
-use Rattle.program_text.specs.Shapes.{shape_in}
 use Rattle.model_histories.specs.declared.answer.Entry.{Entry}
-use Rattle.model_histories.specs.declared.reply.Receipt.{Receipt}
-use Rattle.model_histories.specs.Entries.{Entries}
 use Rattle.model_races.specs.Memory.{IsMemory}
-use Rattle.model_histories.specs.States.{GateState}
-use Rattle.race_gate.specs.States.{IsRight}
-use Rattle.model_histories.specs.Extensions.{IsFinished, IsClean}
-use Rattle.model_runs.specs.Runs.{IsRun, IsFinishedRun}
+use Rattle.model_histories.specs.Extensions.{IsClean}
+use Rattle.model_runs.specs.Runs.{IsFinishedRun}
 use Rattle.locked_replay.specs.declared.fault.RunFault.{RunFault}
 use Rattle.locked_replay.specs.declared.fault.RunFault.TheVariants as run
-use Rattle.locked_replay.specs.declared.whole.Whole.{Whole}
-use Rattle.locked_replay.specs.Receipts.{numbered, Rises}
 use Rattle.locked_replay.specs.Strange.{IsStrangeGate}
 use Rattle.locked_replay.specs.Laws.{SpeaksForAll}
+use Rattle.program_runs.specs.Runs.{WantsMore, IsTornGate, IsLeft}
 use Rattle.race_report.specs.ReportText.{report_text}
 use Rattle.race_report.specs.Laws.{TellsSchedules}
 use Rattle.command_streams.specs.declared.fault.CliFault.{CliFault}
@@ -39,45 +30,14 @@ fault_of_run run.Torn = Torn
 fault_of_run run.Strange = Strange
 fault_of_run run.Memory = Memory
 
--- A run of the program wants more entries than the limit: it has more, or it has as many and is not at its end.
-pub record WantsMore (program : Contents) (limit : ℕ) : Type 0 where
-  pub entries : Entries
-  pub run : IsRun program.functions (shape_of_program program) entries
-  pub more : (limit < length entries) ⊎ (limit ≤ length entries) × (IsFinished entries → ⊥)
-
--- the receipts of some logs, in each of which they rise in number, are those of the entries, oldest first, each once; and as much was asked
-pub record AreReceiptsOf (entries : List Entry) (logs : List (List Receipt)) (asked : ℕ) : Type 0 where
-  pub rise : All Rises logs
-  pub receipts : IsPermutation (flat_map (λ log. log) logs) (numbered 1 entries)
-  pub counted : asked ≡ length entries
-
--- what was brought back of the gate's entries is something else
-pub record IsTornGate (gate : GateState) : Type 0 where
-  pub logs : List (List Receipt)
-  pub asked : ℕ
-  pub torn : AreReceiptsOf (reverse gate.history) logs asked → ⊥
-
--- Behind the workers stands a gate that is right, and it was stopped, or this is so of it.
-pub record IsLeft (P : GateState → Type 0) : Type 0 where
-  pub gate : GateState
-  pub right : IsRight gate
-  pub left : (gate.stopped ≡ true) ⊎ P gate
-
 -- Why the workers brought no finished run within the limit.
 abbrev pub IsRunFault : Contents → (limit : ℕ) → CliFault → Type 0
-IsRunFault program limit Limit = WantsMore program limit
+IsRunFault program limit Limit = WantsMore program.functions (shape_of_program program) limit
 IsRunFault program limit Stopped = IsLeft (λ gate. ⊥)
 IsRunFault program limit Torn = IsLeft IsTornGate
 IsRunFault program limit Strange = IsLeft (IsStrangeGate program.functions (shape_of_program program))
 IsRunFault program limit Memory = Unit {0}
 IsRunFault program limit fault = ⊥
-
--- It is a finished run of the program, of at most so many entries. Its memory is that of the run, and it says whether nothing was refused.
-pub record IsWholeRun {A B : Type 0} (program : ParsedProgram A) (limit : ℕ) (whole : Whole B) : Type 0 where
-  pub run : IsFinishedRun program.functions (shape_in program) (reverse whole.entries.items)
-  pub memory : IsMemory (shape_in program).cells (reverse whole.entries.items) whole.memory.items
-  pub clean : IsTrue whole.clean ↔ IsClean (reverse whole.entries.items)
-  pub within : length whole.entries.items ≤ limit
 
 -- the report of these entries, oldest first, that leave this memory, and a line feed
 abbrev pub run_line : Contents → List Entry → List ℕ → List ℕ

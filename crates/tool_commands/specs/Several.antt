@@ -93,3 +93,8 @@ abbrev pub HasSeveralCause : Style → (files : List ℕ → Option (List ℕ)) 
     CliFault → Type 0
 HasSeveralCause style files names wrote writes Write = AreCut style files names wrote writes
 HasSeveralCause style files names wrote writes fault = StopsSeveral style files names fault
+
+-- the first of some files can't be opened
+abbrev pub lacks_first : (List ℕ → Type 0) → List (List ℕ) → Type 0
+lacks_first lacks [] = ⊥
+lacks_first lacks (name ∷ names) = lacks name

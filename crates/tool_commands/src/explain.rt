@@ -19,7 +19,8 @@ ghost use Rattle.command_streams.specs.Watched.{held, has_failed, calls_of, IsCa
 ghost use Rattle.command_streams.specs.Streams.{most_reads};
 ghost use Rattle.command_streams.specs.Readings.{reading};
 ghost use Rattle.command_streams.specs.KeptTexts.{text_of, IsKept};
-ghost use Rattle.tool_commands.specs.Runs.{IsRunFault, WantsMore};
+ghost use Rattle.program_runs.specs.Runs.{WantsMore};
+ghost use Rattle.tool_commands.specs.Runs.{IsRunFault};
 ghost use Rattle.tool_commands.specs.Explanations.{Manner as SpecManner, clean_words, clean_text, cut_words, cut_behind, cut_text};
 ghost use Rattle.tool_commands.specs.Explanations.{file_of, clean_run, TellsClean, TellsRaces, ExplainsCut, TellsCut, TellsFaulty};
 ghost use Rattle.race_records.specs.Documents.{RecordsRun};
@@ -35,12 +36,13 @@ use crate::explain_trace::explain_trace_text;
 use crate::judged::digest_of_run;
 use crate::memory::memory_value;
 use crate::outcome::{Outcome, outcome_of, refusal_status};
-use crate::run::{Door, PARTS, fault_of, serial_run, some_run};
+use crate::run::fault_of;
 use crate::sort::is_program;
 use command_streams::{CliFault, KeptText, Watched, read_kept, write_text};
 use fault_lists::{Fault, faults_message};
 use locked_replay::{RunFault, Whole};
 use packed_history::Entries;
+use program_runs::{Door, run_by_workers, run_in_serial_order};
 use program_text::Program;
 use program_warnings::{Wraps, program_warnings};
 use race_explanations::{Extent, explanation, most_pairs};
@@ -52,9 +54,8 @@ use serde_json::Value;
 use source_quotes::Meant;
 use std::alloc::{AllocError, Global};
 use std::io::{Read, Write};
-use std::marker::{Brand, Model};
+use std::marker::Model;
 use std::sync::Wait;
-use std::sync::ledger::Blank;
 use std::thread::Threads;
 use text_buffers::{push_number, push_words};
 use text_words::TextFault;
@@ -415,7 +416,7 @@ fn explain_cut(
     gate: &ShortGate,
     limit: u32,
 ) -> Result<(Vec<u8>, End), CliFault>
-    requires more { WantsMore (contents program.now) limit }
+    requires more { WantsMore program.now.functions (shape_in program.now) limit }
     requires limit { limit ≤ most_entries }
     ensures ok { IfOk result (λ told. TellsEnd manner.now text.now (contents program.now) limit told.0.items told.1) }
     ensures fault { IfErr result (IsRunFault (contents program.now) limit) }
@@ -453,9 +454,9 @@ fn explain_run<D: Door + Sync, R: Threads + Wait + Sync>(
     ensures fault { IfErr result (IsRunFault (contents program.now) limit) }
 {
     let ran = if is_serial {
-        serial_run(alloc, program, limit)
+        run_in_serial_order(alloc, program, limit)
     } else {
-        some_run::<Brand, Global, D, R>(rt, alloc, program, workers, door, limit, Blank::new(PARTS))
+        run_by_workers(rt, alloc, program, workers, door, limit)
     };
     let cut = match ran {
         Ok(whole) => return Ok(explain_whole(alloc, manner, text, program, &whole, limit)?),

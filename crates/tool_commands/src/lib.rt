@@ -1,8 +1,4 @@
-//! The commands: a job over what is read, to what is written and the exit status.
-//!
-//! [`perform`] does a job over any [`Host`], whose contract names what standard input and each file hold, and says which of these bytes
-//! were read, what was written for them and delivered, and the exit status; [`perform_alone`] is the same for jobs that start no thread.
-//! [`exit_of`] gives the status of the process. What they say of each job is what its own call says, over any reader and writer.
+//! The commands: what each does over any reader and writer, and the exit status.
 //!
 //! [`run_text`] carries the theorem of `run` in its contract: at a status the bytes that were read mean a program, and what was written is
 //! the report of some finished run of it within the limit, which is its serial elision and speaks for every schedule where nothing was
@@ -31,9 +27,7 @@ mod explain_traces;
 mod judged;
 pub mod laws;
 mod memory;
-mod named;
 mod outcome;
-mod performing;
 mod program;
 mod replay;
 mod run;
@@ -42,20 +36,18 @@ mod sort;
 mod traced_run;
 
 pub use command_streams::{CliFault, Host, Watched, write_text};
-pub use command_words::{
-    Color, Format, INPUT, Job, Language, check_names, read_args, read_words, usage,
-};
 pub use dag_drawing::Form;
 pub use draw::draw_text;
 pub use elide::elide_text;
 pub use explain::{End, Manner, Rendering, explain_text};
 pub use explain_traces::Traces;
 pub use judge_command::{judge_stream, status_of};
-pub use performing::{exit_of, perform, perform_alone};
+pub use program_runs::{Door, OpenDoor};
 pub use race_explanations::Extent;
 pub use race_records::RecordForm;
 pub use replay::replay_text;
-pub use run::{Door, OpenDoor, run_text};
+pub use run::run_text;
+pub use several::explain_files;
 pub use traced_run::{
     TracedRun, run_traced_text, trace_run, trace_run_of_text, write_run_trace, write_traced_run,
 };

@@ -7,7 +7,7 @@ ghost use Rattle.command_streams.specs.Watched.{held, has_failed};
 ghost use Rattle.command_streams.specs.Readings.{reading};
 ghost use Rattle.tool_commands.specs.Together.{together_of, TakesReading, StopsTaking};
 ghost use Rattle.tool_commands.specs.Several.{style, TellsSeveral, StopsSeveral, AreExplained, HasSeveralCause};
-ghost use Rattle.tool_commands.specs.Performed.{lacks_first};
+ghost use Rattle.tool_commands.specs.Several.{lacks_first};
 
 use crate::explain::{Manner, Rendering};
 use crate::explain_traces::Traces;
@@ -77,7 +77,7 @@ fn explain_texts<H: Host>(
 }
 
 /// Explains the traces in some files together.
-pub(crate) fn explain_files<H: Host, W: Write>(
+pub fn explain_files<H: Host, W: Write>(
     alloc: Global,
     host: &mut Watched<H>,
     is_painted: bool,

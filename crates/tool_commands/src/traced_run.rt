@@ -18,9 +18,10 @@ ghost use Rattle.tool_commands.specs.Traced.{HasTracedCause, TellsTrace, IsTrace
 
 use crate::outcome::whole_status;
 use crate::program::read_program;
-use crate::run::{Door, report_line, whole_run};
+use crate::run::{report_line, whole_run};
 use command_streams::{CliFault, Watched, write_text};
 use locked_replay::Whole;
+use program_runs::Door;
 use program_text::Program;
 use run_traces::trace_of;
 use std::alloc::{AllocError, Global};

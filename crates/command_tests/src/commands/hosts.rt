@@ -2,20 +2,20 @@
 
 ghost use Rattle.std.specs.Prelude.{◌<◌, ◌≤◌, ⊤, None, IfOk};
 ghost use Rattle.command_words.specs.Jobs.{IsInRange};
-ghost use Rattle.tool_commands.specs.Performed.{IsAlone};
+ghost use Rattle.command_jobs.specs.Performed.{IsAlone};
 ghost use Rattle.command_streams.specs.Sources.{unknown_sources};
 
 use super::Wanted::{Lacking, Status, Text};
 use super::worked::{FIB, PAIR};
 use super::{MOST, Outcome, Wanted, is_ended, manned, meets, outcome_of};
 use crate::devices::{Breaking, Filling};
+use command_jobs::{Color, Format, Host, Job, Language, Watched, perform, perform_alone};
 use std::alloc::{AllocError, Global};
 use std::io::{self, Error, ErrorKind};
 use std::process::Abort;
 use std::sync::Wait;
 use std::test::Fail;
 use std::thread::Threads;
-use tool_commands::{Color, Format, Host, Job, Language, Watched, perform, perform_alone};
 
 /// A file with the name that stands for standard input.
 const DASH: &[(&str, &str)] = &[("-", "no text of any kind\n")];

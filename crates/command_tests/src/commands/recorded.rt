@@ -11,15 +11,14 @@ use super::{
     Case, MOST, Takes, check, check_all, done, has_ended, is_ended, is_fault, limited, manned,
 };
 use crate::devices::{Breaking, Filling};
+use command_jobs::{CliFault, Host, Job, Watched, check_names, perform};
 use std::alloc::{AllocError, Global};
 use std::io::{self, Error, ErrorKind};
 use std::process::Abort;
 use std::sync::Wait;
 use std::test::Fail;
 use std::thread::Threads;
-use tool_commands::{
-    CliFault, Host, Job, OpenDoor, Watched, check_names, perform, run_traced_text,
-};
+use tool_commands::{OpenDoor, run_traced_text};
 
 /// A program of two requests, the text of the trace of its one run, and the report of it.
 const SHORT: &str = "cilk 1\nfunc main z\nend\n";

@@ -3,7 +3,8 @@
 use std::alloc::{AllocError, Global};
 use std::process::Abort;
 use std::test::Fail;
-use tool_commands::{CliFault, Job, read_words};
+use command_streams::CliFault;
+use command_words::{Job, read_words};
 
 const NO_LIMIT: &str = "invalid value for '--limit <N>': a number from 0 to 1000000 is wanted";
 

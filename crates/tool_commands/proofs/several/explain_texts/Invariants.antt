@@ -2,7 +2,7 @@ use Rattle.std.proofs.Common.{◌≡◌, false, take, map}
 use Rattle.std.specs.String.{string_bytes}
 use Rattle.command_streams.specs.Watched.{held, has_failed}
 use Rattle.tool_commands.specs.Together.{together_of}
-use Rattle.tool_commands.specs.Performed.{lacks_first}
+use Rattle.tool_commands.specs.Several.{lacks_first}
 use Rattle.tool_commands.specs.Several.{style, AreTaken}
 use Rattle.tool_commands.proofs.several.explain_texts.Given as goal
 

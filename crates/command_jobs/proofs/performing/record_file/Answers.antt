@@ -1,0 +1,63 @@
+use Rattle.std.proofs.Common.{rules, ◌≡◌, ℕ, List, Option, None, sym, subst}
+use Rattle.std.proofs.lemmas.Result.{IfErr-weaker}
+use Rattle.command_streams.specs.declared.fault.CliFault.{CliFault}
+use Rattle.command_streams.specs.declared.fault.CliFault.TheVariants.{Read}
+use Rattle.command_streams.specs.Readings.{reading}
+use Rattle.tool_commands.specs.Traced.{Writing, writing, HasTracedCause}
+use Rattle.tool_commands.proofs.TracedCauses.{run_not_written, not_run, not_created, not_written, recorded_ran, recorded_kept, recorded_first}
+use Rattle.command_jobs.proofs.performing.record_file.Goals as goal
+
+-- a program that could not be opened is not run
+unread : (source wrote writes : Option (List ℕ)) (limit : ℕ) (fault : CliFault) → fault ≡ Read →
+    (behind : Option (List ℕ)) × (traces : Writing) × HasTracedCause (reading source behind) traces (writing wrote writes) limit fault
+unread source wrote writes limit fault is =
+    (None, writing None None, subst (λ (f : CliFault). HasTracedCause (reading source None) (writing None None) (writing wrote writes) limit f) (sym is) tt)
+
+pub returns-in-Err-clause-job : goal.returns-in-Err-clause-job
+returns-in-Err-clause-job g c = record {
+  done = search rules;
+  fault = unread _ _ _ c.args.limit c.in-Err.fault c.in-Err.ensures.fault;
+  lacking = search rules;
+}
+
+pub returns-in-Err-told-clause-job : goal.returns-in-Err-told-clause-job
+returns-in-Err-told-clause-job g c = record {
+  done = search rules;
+  fault = not_run _ _ _ _ _ c.args.limit c.in-Err-told.fault c.in-Err-told.ensures.fault (search rules);
+  lacking = search rules;
+}
+
+pub returns-in-Err-create-clause-job : goal.returns-in-Err-create-clause-job
+returns-in-Err-create-clause-job g c = record {
+  done = search rules;
+  fault = not_created _ _ _ c.args.limit _ _ _ c.in-Ok-told.ensures.ok (search rules) _ _ c.in-Err-create.fault c.in-Err-create.ensures.fault;
+  lacking = search rules;
+}
+
+pub returns-clause-job : goal.returns-clause-job
+returns-clause-job g c = record {
+  done = recorded_ran _ _ _ c.args.limit _ _ _ c.in-Ok-told.ensures.ok (search rules) _ _ _ _ c.write_traced_run-answer.result
+      c.write_traced_run-answer.ensures.status c.write_traced_run-answer.ensures.kept c.write_traced_run-answer.ensures.written;
+  fault = IfErr-weaker c.write_traced_run-answer.result _ _
+      (λ fault stops. not_written _ _ _ c.args.limit _ _ _ c.in-Ok-told.ensures.ok (search rules) _ _ _ _ fault stops) c.write_traced_run-answer.ensures.fault;
+  lacking = search rules;
+}
+
+pub returns-clause-recorded : goal.returns-clause-recorded
+returns-clause-recorded g c =
+    recorded_kept _ _ _ c.args.limit _ _ _ c.in-Ok-told.ensures.ok (search rules) _ _ _ _ _ _ c.write_traced_run-answer.result
+    c.write_traced_run-answer.ensures.status c.write_traced_run-answer.ensures.kept c.write_traced_run-answer.ensures.written (search rules) (search rules)
+
+pub returns-clause-recorded_first : goal.returns-clause-recorded_first
+returns-clause-recorded_first g c =
+    recorded_first _ _ _ c.args.limit _ _ _ c.in-Ok-told.ensures.ok (search rules) _ _ _ _ _ _ c.write_traced_run-answer.result
+    c.write_traced_run-answer.ensures.fault (search rules) (search rules)
+
+pub returns-in-Err-clause-recorded_first : goal.returns-in-Err-clause-recorded_first
+returns-in-Err-clause-recorded_first g c = λ write. absurd (let is = c.in-Err.ensures.fault in cc)
+
+pub returns-in-Err-told-clause-recorded_first : goal.returns-in-Err-told-clause-recorded_first
+returns-in-Err-told-clause-recorded_first g c = λ write. absurd (run_not_written _ c.args.limit c.in-Err-told.fault c.in-Err-told.ensures.fault write)
+
+pub returns-in-Err-create-clause-recorded_first : goal.returns-in-Err-create-clause-recorded_first
+returns-in-Err-create-clause-recorded_first g c = λ write. absurd (let is = c.in-Err-create.ensures.fault in cc)
