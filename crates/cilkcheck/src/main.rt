@@ -12,9 +12,7 @@ ghost use Rattle.command_words.specs.Jobs.{IsInRange};
 ghost use Rattle.command_words.specs.Names.{SparesProgram};
 ghost use Rattle.command_streams.specs.Sources.{unknown_sources};
 
-use command_jobs::{
-    CliFault, Host, INPUT, Job, Watched, check_names, exit_of, perform, read_args,
-};
+use command_jobs::{CliFault, Host, INPUT, Job, Watched, check_names, exit_of, perform, read_args};
 use std::env;
 use std::fs::{self, File};
 use std::io::{self, IsTerminal, Read};

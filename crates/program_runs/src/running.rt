@@ -205,11 +205,7 @@ fn run_over_ledger<
 /// its strand. It answers a finished run of at most `limit` entries, or what there is of a run without its end: Limit only where some run
 /// of the program wants more entries than the limit, Stopped, Torn or Strange where the workers brought no finished run, and Memory where
 /// a growth was refused or a thread could not be started.
-pub fn run_by_workers<
-    A: Allocator + Copy + Send + Sync,
-    D: Door + Sync,
-    R: Threads + Wait + Sync,
->(
+pub fn run_by_workers<A: Allocator + Copy + Send + Sync, D: Door + Sync, R: Threads + Wait + Sync>(
     rt: &R,
     alloc: A,
     program: &Program<Global>,

@@ -1,10 +1,10 @@
 //! Which words of a command line give which job.
 
+use command_streams::CliFault;
+use command_words::{Job, read_words};
 use std::alloc::{AllocError, Global};
 use std::process::Abort;
 use std::test::Fail;
-use command_streams::CliFault;
-use command_words::{Job, read_words};
 
 const NO_LIMIT: &str = "invalid value for '--limit <N>': a number from 0 to 1000000 is wanted";
 
