@@ -17,7 +17,7 @@ returns-in_err-check_run-clause-fault g c =
 
 pub returns-then-len-limit-clause-fault : goal.returns-then-len-limit-clause-fault
 returns-then-len-limit-clause-fault g c =
-    beyond_limit c.args.program.now c.args.limit _ (search rules) (first_of (search rules, grind (arith, common_steps)))
+    beyond_limit c.args.program.now c.args.limit c.into_parts-entries.result.0.items (search rules) (first_of (search rules, grind (arith, common_steps)))
 
 pub returns-clause-whole : goal.returns-clause-whole
 returns-clause-whole g c = record {
