@@ -4,4 +4,4 @@ use Rattle.tool_commands.proofs.run.whole_run.Goals as goal
 
 pub returns-in-Err-clause-fault : goal.returns-in-Err-clause-fault
 returns-in-Err-clause-fault g c =
-    run_lacking (contents c.args.program.now) c.args.limit c.in-Err.cut.fault c.in-Err.ensures.fault
+    rw (c.fault_of.ensures) (run_lacking (contents c.args.program.now) c.args.limit c.in-Err.cut.fault c.in-Err.ensures.fault)
