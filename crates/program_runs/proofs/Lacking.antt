@@ -1,5 +1,5 @@
 -- Why there is no finished run of a program within the limit.
-use Rattle.std.proofs.Common.{◌≡◌, ◌<◌, ◌≤◌, ℕ, true, List, [], ◌∷◌, ◌++◌, length, map, reverse, inl, inr, refl, ap, subst, arith}
+use Rattle.std.proofs.Common.{◌≡◌, ◌<◌, ℕ, true, List, [], ◌∷◌, ◌++◌, length, map, reverse, inl, inr, refl, ap, subst, arith}
 use Rattle.std.specs.List.{All, flat_map}
 use Rattle.std.proofs.lemmas.List.{length-reverse}
 use Rattle.std.proofs.lemmas.List.Elements.{All-nil, All-cons, All-head, All-tail}
@@ -13,7 +13,6 @@ use Rattle.model_histories.specs.Extensions.{IsFinished}
 use Rattle.program_text.specs.declared.program.Program.{Program}
 use Rattle.program_text.specs.Shapes.{shape_in}
 use Rattle.model_runs.specs.Runs.{IsFinishedRun}
-use Rattle.run_replay.specs.Replays.{IsUnfinishedRun}
 use Rattle.locked_replay.specs.declared.fault.RunFault.{RunFault}
 use Rattle.locked_replay.specs.declared.fault.RunFault.TheVariants as run
 use Rattle.locked_replay.specs.declared.worker.WorkerLog.{WorkerLog}
@@ -79,21 +78,6 @@ left_fault program limit gate run.Stopped right strange no_limit no_stop no_torn
 left_fault program limit gate run.Torn right strange no_limit no_stop no_torn = absurd (no_torn refl)
 left_fault program limit gate run.Strange right strange no_limit no_stop no_torn = record { gate = gate; right = right; left = inr (strange refl) }
 left_fault program limit gate run.Memory right strange no_limit no_stop no_torn = tt
-
--- a fault that stopped the gate
-pub stopped_fault : {A : Type 0} (program : Program A) (limit : ℕ) (gate : GateState) (fault : RunFault) → IsRight gate → gate.stopped ≡ true → (fault ≡ run.Limit → ⊥) →
-    LacksRun program.functions (shape_in program) limit fault
-stopped_fault program limit gate run.Limit right stopped no_limit = absurd (no_limit refl)
-stopped_fault program limit gate run.Stopped right stopped no_limit = record { gate = gate; right = right; left = inl stopped }
-stopped_fault program limit gate run.Torn right stopped no_limit = record { gate = gate; right = right; left = inl stopped }
-stopped_fault program limit gate run.Strange right stopped no_limit = record { gate = gate; right = right; left = inl stopped }
-stopped_fault program limit gate run.Memory right stopped no_limit = tt
-
--- a run that is not finished, and has come to the limit
-pub wants_more : {A : Type 0} (program : Program A) (limit : ℕ) (entries : List Entry) → limit ≤ length entries →
-    IsUnfinishedRun program.functions (shape_in program) (reverse entries) → WantsMore program.functions (shape_in program) limit
-wants_more program limit entries full unfinished =
-    record { entries = reverse entries; run = unfinished.0; more = inr (omega (arith, full, length-reverse entries), unfinished.1) }
 
 -- a finished run beyond the limit
 pub beyond_limit : {A : Type 0} (program : Program A) (limit : ℕ) (entries : List Entry) → IsFinishedRun program.functions (shape_in program) (reverse entries) →
