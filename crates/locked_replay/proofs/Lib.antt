@@ -3,6 +3,7 @@ mod Marks
 mod Marking
 mod Theirs
 pub mod Reversed
+mod Checked
 mod Agreeing
 pub mod Wholes
 mod Faulted
