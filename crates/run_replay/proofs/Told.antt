@@ -1,5 +1,5 @@
 -- What a replay tells at its end.
-use Rattle.std.proofs.Common.{◌≡◌, ◌⊎◌, ℕ, zero, suc, ◌+◌, ◌<◌, List, [], ◌∷◌, ◌++◌, length, reverse, take, drop, append_assoc, refl, sym, ◌∙◌, ap, subst, arith}
+use Rattle.std.proofs.Common.{◌≡◌, ◌⊎◌, ℕ, zero, suc, ◌+◌, ◌<◌, List, [], ◌∷◌, ◌++◌, length, reverse, take, drop, append_assoc, Result, Ok, Err, refl, sym, ◌∙◌, ap, subst, arith}
 use Rattle.std.specs.Prelude.{get_or}
 use Rattle.std.proofs.lemmas.List.{take_more, take-append-drop, reverse-append, length-reverse}
 use Rattle.std.proofs.Math.Seq.{take-length}
@@ -13,6 +13,8 @@ use Rattle.model_bodies.specs.Codes.{Code}
 use Rattle.frame_steps.specs.States.{FrameState}
 use Rattle.model_runs.specs.Runs.{IsRun, IsFinishedRun}
 use Rattle.run_replay.specs.FrameTables.{placed_frames, Plays, IsMisfit}
+use Rattle.run_replay.specs.declared.replays.ReplayFault.{ReplayFault}
+use Rattle.run_replay.specs.declared.replays.ReplayFault.TheVariants.{Strange, Unfinished, Memory}
 use Rattle.run_replay.specs.Replays.{IsUnfinishedRun, IsStrange}
 use Rattle.run_replay.proofs.Openings.{plays_run, told}
 
@@ -59,7 +61,7 @@ module _ (functions : List Code) (shape : Shape) (gate : GateState) (frames : Li
   all_played : index ≡ length entries → gate.history ≡ reverse entries
   all_played e = history ∙ ap (λ n. reverse (take n entries)) e ∙ ap reverse (take-length entries)
 
-  run_of_all : index ≡ length entries → IsRun functions shape (reverse entries)
+  pub run_of_all : index ≡ length entries → IsRun functions shape (reverse entries)
   run_of_all e = subst (IsRun functions shape) (all_played e) (plays_run functions shape gate frames places plays)
 
   pub finished_all : index ≡ length entries → IsFinished gate.history → IsFinishedRun functions shape (reverse entries)
@@ -67,3 +69,23 @@ module _ (functions : List Code) (shape : Shape) (gate : GateState) (frames : Li
 
   pub unfinished_all : index ≡ length entries → (IsFinished gate.history → ⊥) → IsUnfinishedRun functions shape (reverse entries)
   unfinished_all e none = (run_of_all e, (λ f. none (subst IsFinished (sym (all_played e)) f)))
+
+-- an answer tells of no other fault
+module _ {T : Type 0} where
+  abbrev IsOther : Result T ReplayFault → ReplayFault → Type 0
+  IsOther result fault = result ≡ Err fault → ⊥
+
+  pub ok-other : (answer : T) (fault : ReplayFault) → IsOther (Ok answer) fault
+  ok-other answer fault e = cc
+
+  pub memory-unfinished : IsOther (Err Memory) Unfinished
+  memory-unfinished e = cc
+
+  pub memory-strange : (number : ℕ) → IsOther (Err Memory) (Strange number)
+  memory-strange number e = cc
+
+  pub strange-unfinished : (number : ℕ) → IsOther (Err (Strange number)) Unfinished
+  strange-unfinished number e = cc
+
+  pub unfinished-strange : (number : ℕ) → IsOther (Err Unfinished) (Strange number)
+  unfinished-strange number e = cc

@@ -1,14 +1,15 @@
-use Rattle.std.proofs.Common.{rules, ◌≡◌, ◌<◌, ◌+◌, suc, length, Err, refl, ap, sym, subst, arith}
+use Rattle.std.proofs.Common.{◌≡◌, ◌<◌, ◌+◌, suc, length, true≢false, Err, ◌∙◌, refl, ap, sym, subst, arith}
 use Rattle.std.proofs.lemmas.Option.{get_or_from_slice_get}
 use Rattle.model_histories.specs.declared.answer.Entry.{Entry}
 use Rattle.model_histories.specs.Shapes.{most_entries}
 use Rattle.model_histories.specs.States.{opening}
 use Rattle.program_text.specs.Shapes.{shape_in}
+use Rattle.run_replay.specs.declared.replays.ReplayFault.TheVariants.{Strange, Unfinished}
 use Rattle.run_replay.specs.Slots.{PlaysIn}
 use Rattle.run_replay.specs.Turns.{IsEntered}
 use Rattle.run_replay.specs.FrameTables.{IsMisfit}
 use Rattle.run_replay.proofs.Openings.{opens_plays}
-use Rattle.run_replay.proofs.Told.{strange_at}
+use Rattle.run_replay.proofs.Told.{strange_at, run_of_all, ok-other, memory-unfinished, memory-strange, strange-unfinished, unfinished-strange}
 use Rattle.run_replay.proofs.Followed.{so_many, one_further, entry_there}
 use Rattle.run_replay.proofs.replays.follow_all.Goals as goal
 
@@ -27,7 +28,7 @@ loop-at-init g c = (
 pub play_at-requires : goal.play_at-requires
 play_at-requires g c =
     let kept = c.loop-at.invariant in
-    record { there = search rules; plays = (kept.0, kept.1) }
+    record { there = omega (arith, c.loop-at-test.true, c.len-at-end.ensures); plays = (kept.0, kept.1) }
 
 pub returns-in-Err-Strange-clause-strange : goal.returns-in-Err-Strange-clause-strange
 returns-in-Err-Strange-clause-strange g c = λ number e.
@@ -35,7 +36,7 @@ returns-in-Err-Strange-clause-strange g c = λ number e.
     let shape = shape_in c.args.program.now in
     let items = c.args.entries.now.items in
     let kept = c.loop-at.invariant in
-    let low : c.loop-at.at < length items = search rules in
+    let low : c.loop-at.at < length items = omega (arith, c.loop-at-test.true, c.len-at-end.ensures) in
     let is : c.loop-at.at + 1 ≡ number = cc in
     let played = so_many items c.loop-at.at kept.0.history low kept.2 in
     let place : number ≡ suc (length kept.0.history) = omega (arith, is, played) in
@@ -50,10 +51,44 @@ loop-at-preserved g c =
     let shape = shape_in c.args.program.now in
     let items = c.args.entries.now.items in
     let kept = c.loop-at.invariant in
-    let low : c.loop-at.at < length items = search rules in
+    let low : c.loop-at.at < length items = omega (arith, c.loop-at-test.true, c.len-at-end.ensures) in
     let now = c.play_at.new.table in
     let found = entry_there items c.loop-at.at low in
     let here = get_or_from_slice_get items c.loop-at.at found.0 found.0 found.1 in
     one_further shape items c.loop-at.at kept.0 found.0 c.requires.judged c.requires.within low kept.1.2.shape_is kept.1.2.limit_is kept.2
     (λ state. PlaysIn functions shape state now.slots.items now.homes.items now.places.items)
     (λ next entered. c.in-Ok.ensures.ok found.0 found.1 kept.0 next kept.1 (subst (λ (entry : Entry). IsEntered entry kept.0 next) here entered))
+
+pub returns-in-Err-Strange-clause-unfinished : goal.returns-in-Err-Strange-clause-unfinished
+returns-in-Err-Strange-clause-unfinished g c = λ e. absurd (strange-unfinished (c.loop-at.at + 1) e)
+
+pub returns-in-Err-Memory-clause-unfinished : goal.returns-in-Err-Memory-clause-unfinished
+returns-in-Err-Memory-clause-unfinished g c = λ e. absurd (memory-unfinished e)
+
+pub returns-in-Err-Memory-clause-strange : goal.returns-in-Err-Memory-clause-strange
+returns-in-Err-Memory-clause-strange g c = λ number e. absurd (memory-strange number e)
+
+pub returns-then-is_finished-clause-finished : goal.returns-then-is_finished-clause-finished
+returns-then-is_finished-clause-finished g c =
+    let kept = c.loop-at.invariant in
+    let end : c.loop-at.at ≡ length c.args.entries.now.items = omega (arith, c.loop-at-test.false, c.loop-at.auto.at-end, c.len-at-end.ensures) in (
+      run_of_all c.args.program.now.functions (shape_in c.args.program.now) kept.0 kept.1.0 c.loop-at.table.places.items kept.1.2 c.args.entries.now.items c.loop-at.at kept.2 end,
+      c.is_finished.ensures.0 c.if-is_finished.true,
+    )
+
+pub returns-then-is_finished-clause-unfinished : goal.returns-then-is_finished-clause-unfinished
+returns-then-is_finished-clause-unfinished g c = λ e. absurd (ok-other tt Unfinished e)
+
+pub returns-then-is_finished-clause-strange : goal.returns-then-is_finished-clause-strange
+returns-then-is_finished-clause-strange g c = λ number e. absurd (ok-other tt (Strange number) e)
+
+pub returns-else-is_finished-clause-unfinished : goal.returns-else-is_finished-clause-unfinished
+returns-else-is_finished-clause-unfinished g c = λ e.
+    let kept = c.loop-at.invariant in
+    let end : c.loop-at.at ≡ length c.args.entries.now.items = omega (arith, c.loop-at-test.false, c.loop-at.auto.at-end, c.len-at-end.ensures) in (
+      run_of_all c.args.program.now.functions (shape_in c.args.program.now) kept.0 kept.1.0 c.loop-at.table.places.items kept.1.2 c.args.entries.now.items c.loop-at.at kept.2 end,
+      (λ ends. true≢false (sym (c.is_finished.ensures.1 ends) ∙ c.if-is_finished.false)),
+    )
+
+pub returns-else-is_finished-clause-strange : goal.returns-else-is_finished-clause-strange
+returns-else-is_finished-clause-strange g c = λ number e. absurd (unfinished-strange number e)
