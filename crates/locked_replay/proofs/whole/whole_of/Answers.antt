@@ -1,4 +1,5 @@
-use Rattle.std.proofs.Common.{List, reverse, IsTrue, Err, subst, ap}
+use Rattle.std.proofs.Common.{List, reverse, IsTrue, Err, subst, ap, sym, ◌∙◌}
+use Rattle.std.proofs.lemmas.List.{reverse-reverse}
 use Rattle.std.proofs.lemmas.Result.{err_from_is_err_and}
 use Rattle.model_histories.specs.declared.answer.Entry.{Entry}
 use Rattle.model_histories.specs.Extensions.{IsClean}
@@ -7,6 +8,8 @@ use Rattle.locked_replay.specs.declared.fault.RunFault.{RunFault}
 use Rattle.locked_replay.specs.declared.worker.WorkerLog.{WorkerLog}
 use Rattle.locked_replay.specs.Logs.{AreWhole}
 use Rattle.locked_replay.proofs.Reversed.{clean_either}
+use Rattle.locked_replay.specs.declared.fault.RunFault.TheVariants.{Stopped}
+use Rattle.locked_replay.proofs.Checked.{ok-other}
 use Rattle.locked_replay.proofs.Faulted.{run_faulted}
 use Rattle.locked_replay.proofs.whole.whole_of.Goals as goal
 
@@ -30,3 +33,22 @@ pub returns-clause-clean : goal.returns-clause-clean
 returns-clause-clean g c =
     let tells = clean_either c.in_ok-entries.entries.items c.is_clean-clean.result c.is_clean-clean.ensures in
     subst (λ (l : List Entry). (IsTrue c.is_clean-clean.result → IsClean l) × (IsClean l → IsTrue c.is_clean-clean.result)) c.in_ok-entries.ensures.entries tells
+
+pub returns-clause-shape : goal.returns-clause-shape
+returns-clause-shape g c = c.in_ok-entries.ensures.shape
+
+pub returns-clause-entries : goal.returns-clause-entries
+returns-clause-entries g c = sym (ap reverse (sym c.in_ok-entries.ensures.entries) ∙ reverse-reverse c.in_ok-entries.entries.items)
+
+pub returns-clause-memory : goal.returns-clause-memory
+returns-clause-memory g c = c.in_ok-entries.ensures.memory
+
+pub returns-clause-logs : goal.returns-clause-logs
+returns-clause-logs g c =
+    subst (λ (l : List (WorkerLog _ _)). AreWhole (reverse c.args.gate.history) l) c.as_slice.ensures.value c.in_ok-check_logs.ensures.whole
+
+pub returns-clause-run : goal.returns-clause-run
+returns-clause-run g c = c.in_ok-entries.ensures.run
+
+pub returns-clause-stopped : goal.returns-clause-stopped
+returns-clause-stopped g c = λ stops. absurd (ok-other tt Stopped (sym c.in_ok-check_logs.was ∙ c.check_logs.ensures.stopped.1 stops))
