@@ -15,4 +15,4 @@ mod result;
 mod rule;
 
 pub use log::log_value;
-pub use object::{Object, list_of_one};
+pub use object::Object;

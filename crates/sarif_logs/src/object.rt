@@ -56,8 +56,8 @@ impl Object {
     }
 }
 
-/// A list of one item. Errors where there is no memory.
-pub fn list_of_one(alloc: Global, value: Value) -> Result<Value, AllocError>
+/// A list of one item.
+pub(crate) fn list_of_one(alloc: Global, value: Value) -> Result<Value, AllocError>
     ensures { IfOk result (λ made. view made ≡ array (item (view value) no_items)) }
 {
     let mut list = Vec::new(alloc);
