@@ -2,8 +2,8 @@
 //!
 //! [`perform`] does a job over any [`Host`], whose contract names what standard input and each file hold, and says which of these bytes
 //! were read, what was written for them and delivered, and the exit status; [`perform_alone`] is the same for jobs that start no thread.
-//! [`exit_of`] gives the status of the process. What they say of each job is what the call of [`tool_commands`] says that does it. No word
-//! of a command line comes to the crates below.
+//! [`exit_of`] gives the status of the process. A contract says of a job what the call that does it says ([`tool_commands`],
+//! [`judge_command`]). The crates below know no arguments of a command line.
 #![tactic(auto)]
 
 mod named;
