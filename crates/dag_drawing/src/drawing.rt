@@ -7,10 +7,11 @@ ghost use Rattle.dag_drawing.specs.Told.{access_told, accesses_told, race_told, 
 ghost use Rattle.dag_drawing.specs.Drawn.{IsDrawing, HasMoreStrands, marked_from, has_mark};
 
 use crate::walk::walk_entries;
+use access_table::asked_by;
 use model_accesses::Witness;
 use race_gate::{Answer, Entry};
 use std::alloc::{AllocError, Allocator};
-use text_words::{Request, asked_by};
+use text_words::Request;
 
 /// The most strands of a drawing.
 pub const MOST_STRANDS: usize = 10_000;

@@ -9,11 +9,11 @@ ghost use Rattle.dag_drawing.specs.Labels.{naming_of, plain_name, told_name, pla
 ghost use Rattle.dag_drawing.specs.Labels.{head_line, most_told, rest_lines, node_lines, race_label};
 
 use crate::drawing::{Access, Race};
-use access_table::{Kind, rule_word, word};
+use access_table::{Kind, asked_by, rule_word, word};
 use race_gate::Answer;
 use std::alloc::{AllocError, Allocator};
 use std::fmt::Write;
-use text_words::{Act, Mem, Reducer, asked_by};
+use text_words::{Act, Mem, Reducer};
 use trace_notes::{Notes, Place};
 use trace_text::{put_cell_name, reducer_name};
 

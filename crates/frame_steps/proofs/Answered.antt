@@ -13,8 +13,8 @@ use Rattle.model_histories.specs.declared.answer.Answer.{Answer}
 use Rattle.model_histories.specs.declared.answer.Answer.TheVariants.{Same}
 use Rattle.model_programs.specs.Values.{Registers, value_of}
 use Rattle.model_programs.specs.Answers.{IsReturned}
-use Rattle.function_steps.specs.Requests.{answered}
-use Rattle.function_steps.specs.Activations.{left, statement_of, is_plain, IsInPlace}
+use Rattle.frame_steps.specs.Requests.{answered}
+use Rattle.frame_steps.specs.Activations.{left, statement_of, is_plain, IsInPlace}
 use Rattle.frame_steps.specs.declared.frame.FrameFault.{FrameFault}
 use Rattle.frame_steps.specs.declared.phase.Phase.TheVariants.{Running, Wanting}
 use Rattle.frame_steps.specs.Joins.{join_after}

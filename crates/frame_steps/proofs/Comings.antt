@@ -11,8 +11,8 @@ use Rattle.model_bodies.specs.Trees.{Tree, Done, Step}
 use Rattle.model_programs.specs.Values.{Registers, first_registers, value_of}
 use Rattle.model_programs.specs.Scripts.{script, Passes, assigned, first_part, second_part, counted}
 use Rattle.model_programs.specs.Exchanges.{Exchange}
-use Rattle.function_steps.specs.Scripts.{PassesAll, none_passed, one_more}
-use Rattle.function_steps.specs.Requests.{act_of, answered}
+use Rattle.frame_steps.specs.Scripts.{PassesAll, none_passed, one_more}
+use Rattle.frame_steps.specs.Requests.{act_of, answered}
 use Rattle.frame_steps.specs.Stacks.{Standing, Comes, StackComes, ComesBefore, stands_here, goes_past, goes_onward, goes_inward, goes_outward}
 
 -- a statement passes in one way

@@ -11,13 +11,13 @@ use Rattle.model_histories.specs.declared.answer.Answer.{Answer}
 use Rattle.model_histories.specs.declared.answer.Answer.TheVariants.{Same, Resumed}
 use Rattle.model_programs.specs.Values.{Registers, first_registers, value_of}
 use Rattle.model_programs.specs.Scripts.{script, Passes}
-use Rattle.function_steps.specs.Scripts.{PassesAll, none_passed, one_more}
+use Rattle.frame_steps.specs.Scripts.{PassesAll, none_passed, one_more}
 use Rattle.model_programs.specs.Answers.{Origin, FromCall, FromSpawn, IsReturned}
 use Rattle.model_programs.specs.Exchanges.{Exchange, exchange}
 use Rattle.model_programs.specs.Dialogue.{Extent, Whole, Part, Dialogue, stopped, passed, read, write, bump, update, put, get, spawned, called, in_call, synced, returned}
-use Rattle.function_steps.specs.Requests.{act_of, answered}
-use Rattle.function_steps.specs.Activations.{asked_act}
-use Rattle.frame_steps.specs.Requests.{Belongs, Follows, asked, tree_at}
+use Rattle.frame_steps.specs.Requests.{act_of, answered}
+use Rattle.frame_steps.specs.Activations.{asked_act}
+use Rattle.frame_steps.specs.Exchanges.{Belongs, Follows, asked, tree_at}
 use Rattle.frame_steps.specs.Stacks.{Standing, StackDialogue, StackComes, SameStack, NextStack, origin_of, goes_onward, goes_inward, goes_outward}
 use Rattle.frame_steps.proofs.Comings.{passes_once, passes_silent, answered_silent, past_all, onward, inward, outward, ends_there}
 use Rattle.frame_steps.proofs.Replies.{was_read, was_got, was_written, was_updated, was_split, was_synced, act_is, is_same, belongs_answered}

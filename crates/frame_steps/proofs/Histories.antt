@@ -11,22 +11,22 @@ use Rattle.model_bodies.specs.Trees.{Step}
 use Rattle.model_accesses.specs.declared.request.Act.{Act}
 use Rattle.model_histories.specs.declared.answer.Answer.{Answer}
 use Rattle.model_histories.specs.declared.answer.Answer.TheVariants.{Same, Resumed, Ended, EndedJoined, Finished}
-use Rattle.function_steps.specs.declared.request.Want.{Want}
-use Rattle.function_steps.specs.declared.activation.Turn.TheVariants.{Plainly}
-use Rattle.function_steps.specs.declared.activation.Activation.{Activation}
+use Rattle.frame_steps.specs.declared.request.Want.{Want}
+use Rattle.frame_steps.specs.declared.activation.Turn.TheVariants.{Plainly}
+use Rattle.frame_steps.specs.declared.activation.Activation.{Activation}
 use Rattle.model_programs.specs.Values.{Registers, first_registers, value_of}
-use Rattle.function_steps.specs.Scripts.{PassesAll}
+use Rattle.frame_steps.specs.Scripts.{PassesAll}
 use Rattle.model_programs.specs.Answers.{FromSpawn, IsReturned}
 use Rattle.model_programs.specs.Exchanges.{Exchange}
 use Rattle.model_programs.specs.Dialogue.{Extent, Whole, Part, Dialogue, DialogueOf}
-use Rattle.function_steps.specs.Requests.{Asks, act_of, next_line, answered}
-use Rattle.function_steps.specs.Activations.{left, end_line_of, statement_of, asked_act, is_plain, IsInPlace}
+use Rattle.frame_steps.specs.Requests.{Asks, act_of, next_line, answered}
+use Rattle.frame_steps.specs.Activations.{left, end_line_of, statement_of, asked_act, is_plain, IsInPlace}
 use Rattle.model_programs.specs.Scripts.{script}
-use Rattle.function_steps.proofs.Places.{found}
-use Rattle.function_steps.proofs.Turns.{asks_plain}
+use Rattle.frame_steps.proofs.Places.{found}
+use Rattle.frame_steps.proofs.Turns.{asks_plain}
 use Rattle.frame_steps.specs.declared.phase.Phase.{Phase}
 use Rattle.frame_steps.specs.declared.phase.Phase.TheVariants.{Running, Wanting, Over}
-use Rattle.frame_steps.specs.Requests.{Belongs, Follows, asked_line, asked_target}
+use Rattle.frame_steps.specs.Exchanges.{Belongs, Follows, asked_line, asked_target}
 use Rattle.frame_steps.specs.Stacks.{StackDialogue, StackComes, ComesBefore, SameStack, NextStack, origin_of}
 use Rattle.frame_steps.specs.Joins.{join_after, joins_step, joins_after}
 use Rattle.frame_steps.specs.States.{FrameState}

@@ -1,3 +1,8 @@
+pub mod Trees
+pub mod Places
+pub mod Turns
+pub mod Located
+pub mod Takings
 pub mod Replies
 pub mod Comings
 pub mod Dialogues

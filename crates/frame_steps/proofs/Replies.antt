@@ -9,8 +9,8 @@ use Rattle.model_histories.specs.declared.answer.Answer.{Answer}
 use Rattle.model_histories.specs.declared.answer.Answer.TheVariants.{Split, Same, Joined, Waits, Granted, Value, Refused, Unset}
 use Rattle.model_programs.specs.Values.{Registers}
 use Rattle.model_programs.specs.Answers.{Origin, after_read, after_get, after_write, after_update, after_spawn, after_sync}
-use Rattle.function_steps.specs.Requests.{act_of, answered}
-use Rattle.frame_steps.specs.Requests.{IsSplit, IsSynced, IsCalled, IsWritten, IsUpdated, IsRead, IsGot, Belongs}
+use Rattle.frame_steps.specs.Requests.{act_of, answered}
+use Rattle.frame_steps.specs.Exchanges.{IsSplit, IsSynced, IsCalled, IsWritten, IsUpdated, IsRead, IsGot, Belongs}
 
 pub was_read : (register : Register) (answer : Answer) (registers after : Registers) → after_read register answer registers ≡ Some after → IsRead answer
 was_read register (Value value) registers after e = tt

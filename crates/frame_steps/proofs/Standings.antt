@@ -13,19 +13,19 @@ use Rattle.model_bodies.specs.Trees.{Tree, Done, Step}
 use Rattle.model_accesses.specs.declared.request.Act.{Act}
 use Rattle.model_histories.specs.declared.answer.Answer.{Answer}
 use Rattle.model_histories.specs.declared.answer.Answer.TheVariants.{Same, Resumed}
-use Rattle.function_steps.specs.declared.activation.Turn.TheVariants.{Plainly}
-use Rattle.function_steps.specs.declared.activation.Activation.{Activation}
+use Rattle.frame_steps.specs.declared.activation.Turn.TheVariants.{Plainly}
+use Rattle.frame_steps.specs.declared.activation.Activation.{Activation}
 use Rattle.model_programs.specs.Values.{Registers, first_registers, value_of}
 use Rattle.model_programs.specs.Scripts.{script}
-use Rattle.function_steps.specs.Scripts.{PassesAll}
+use Rattle.frame_steps.specs.Scripts.{PassesAll}
 use Rattle.model_programs.specs.Answers.{Origin, FromCall, FromSpawn, IsReturned}
 use Rattle.model_programs.specs.Exchanges.{Exchange, exchange}
-use Rattle.function_steps.specs.Requests.{next_line, answered}
-use Rattle.function_steps.specs.Activations.{left_on, left_by, left, end_line_by, end_line_of, statement_of, asked_act, IsTurn, IsInPlace}
-use Rattle.function_steps.proofs.Places.{found}
-use Rattle.function_steps.proofs.Turns.{none_left, asking_left}
-use Rattle.function_steps.proofs.Located.{left_is, statement_is, sound_of, statement_within}
-use Rattle.frame_steps.specs.Requests.{Belongs, Follows, asked_line, tree_at}
+use Rattle.frame_steps.specs.Requests.{next_line, answered}
+use Rattle.frame_steps.specs.Activations.{left_on, left_by, left, end_line_by, end_line_of, statement_of, asked_act, IsTurn, IsInPlace}
+use Rattle.frame_steps.proofs.Places.{found}
+use Rattle.frame_steps.proofs.Turns.{none_left, asking_left}
+use Rattle.frame_steps.proofs.Located.{left_is, statement_is, sound_of, statement_within}
+use Rattle.frame_steps.specs.Exchanges.{Belongs, Follows, asked_line, tree_at}
 use Rattle.frame_steps.specs.Stacks.{Standing, SameStack, NextStack, origin_of}
 use Rattle.frame_steps.specs.Frames.{standing, callers_of, began_by}
 use Rattle.frame_steps.proofs.Replies.{act_is, is_same}

@@ -6,12 +6,12 @@ use Rattle.model_bodies.specs.Codes.{Code}
 use Rattle.model_bodies.specs.Trees.{Tree}
 use Rattle.model_programs.specs.Values.{Registers}
 use Rattle.model_programs.specs.Exchanges.{Exchange}
-use Rattle.function_steps.specs.declared.activation.Activation.{Activation}
-use Rattle.function_steps.specs.Scripts.{PassesAll}
-use Rattle.function_steps.specs.Activations.{left, end_line_of, statement_of, asked_act, IsInPlace}
-use Rattle.function_steps.specs.Wraps.{wrap_of, wrap_before}
+use Rattle.frame_steps.specs.declared.activation.Activation.{Activation}
+use Rattle.frame_steps.specs.Scripts.{PassesAll}
+use Rattle.frame_steps.specs.Activations.{left, end_line_of, statement_of, asked_act, IsInPlace}
+use Rattle.frame_steps.specs.Wraps.{wrap_of, wrap_before}
 use Rattle.frame_steps.specs.declared.phase.Phase.TheVariants.{Over}
-use Rattle.frame_steps.specs.Requests.{tree_at}
+use Rattle.frame_steps.specs.Exchanges.{tree_at}
 use Rattle.frame_steps.specs.Stacks.{Comes, StackComes, ComesBefore, stands_here}
 use Rattle.frame_steps.specs.States.{FrameState}
 use Rattle.frame_steps.specs.Frames.{callers_of, IsAfter, Wraps}

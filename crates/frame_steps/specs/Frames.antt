@@ -8,17 +8,17 @@ use Rattle.model_bodies.specs.Trees.{Step}
 use Rattle.model_accesses.specs.declared.request.Act.{Act}
 use Rattle.model_histories.specs.declared.answer.Answer.{Answer}
 use Rattle.model_histories.specs.declared.answer.Answer.TheVariants.{Resumed, Ended, EndedJoined, Finished}
-use Rattle.function_steps.specs.declared.activation.Turn.{Turn}
-use Rattle.function_steps.specs.declared.activation.Activation.{Activation}
+use Rattle.frame_steps.specs.declared.activation.Turn.{Turn}
+use Rattle.frame_steps.specs.declared.activation.Activation.{Activation}
 use Rattle.model_programs.specs.Values.{Registers, first_registers}
 use Rattle.model_programs.specs.Answers.{Origin, FromCall, FromSpawn}
 use Rattle.model_programs.specs.Exchanges.{Exchange}
-use Rattle.function_steps.specs.Activations.{left, end_line_of, statement_of, asked_act, is_plain, IsInPlace}
-use Rattle.function_steps.specs.Wraps.{wrap_of}
+use Rattle.frame_steps.specs.Activations.{left, end_line_of, statement_of, asked_act, is_plain, IsInPlace}
+use Rattle.frame_steps.specs.Wraps.{wrap_of}
 use Rattle.frame_steps.specs.declared.frame.FrameFault.{FrameFault}
 use Rattle.frame_steps.specs.declared.phase.Phase.{Phase}
 use Rattle.frame_steps.specs.declared.phase.Phase.TheVariants.{Running, Wanting, Over}
-use Rattle.frame_steps.specs.Requests.{Follows}
+use Rattle.frame_steps.specs.Exchanges.{Follows}
 use Rattle.frame_steps.specs.Stacks.{Standing, StackDialogue, StackComes, ComesBefore, origin_of}
 use Rattle.frame_steps.specs.Joins.{joins_after}
 use Rattle.frame_steps.specs.States.{FrameState}

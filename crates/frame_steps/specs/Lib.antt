@@ -1,4 +1,9 @@
+pub mod Scripts
+pub mod Answers
 pub mod Requests
+pub mod Activations
+pub mod Wraps
+pub mod Exchanges
 pub mod Stacks
 pub mod Joins
 pub mod States

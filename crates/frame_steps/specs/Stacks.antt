@@ -11,7 +11,7 @@ use Rattle.model_programs.specs.Values.{Registers, first_registers, value_of}
 use Rattle.model_programs.specs.Answers.{Origin, FromCall, FromSpawn}
 use Rattle.model_programs.specs.Exchanges.{Exchange}
 use Rattle.model_programs.specs.Dialogue.{Extent, Whole, Part, Dialogue}
-use Rattle.function_steps.specs.Requests.{act_of, answered}
+use Rattle.frame_steps.specs.Requests.{act_of, answered}
 
 -- A function with what is left of it.
 pub record Standing : Type 0 where

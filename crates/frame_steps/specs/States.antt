@@ -1,6 +1,6 @@
 -- What contracts see of a frame.
 use Rattle.std.specs.Prelude.{Bool, List}
-use Rattle.function_steps.specs.declared.activation.Activation.{Activation}
+use Rattle.frame_steps.specs.declared.activation.Activation.{Activation}
 use Rattle.frame_steps.specs.declared.phase.Phase.{Phase}
 
 -- Whether it has asked, its topmost function, the functions that wait for it, the outermost first, and whether there is room for a call.

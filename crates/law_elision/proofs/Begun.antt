@@ -16,7 +16,7 @@ use Rattle.model_programs.specs.Scripts.{closing, script, numbers, Passes, assig
 use Rattle.model_programs.specs.Answers.{Origin}
 use Rattle.model_programs.specs.Exchanges.{Exchange}
 use Rattle.model_programs.specs.Dialogue.{Extent, Dialogue}
-use Rattle.function_steps.proofs.Located.{sound_of}
+use Rattle.frame_steps.proofs.Located.{sound_of}
 
 -- the function that a statement spawns is there, where there are so many
 abbrev pub SpawnsWithin : ℕ → Statement → Type 0

@@ -14,7 +14,7 @@ use Rattle.model_reducers.specs.Products.{identity_of, monoid_of}
 use Rattle.model_bodies.specs.Codes.{Code}
 use Rattle.model_bodies.specs.Sound.{IsMain, IsSound}
 use Rattle.program_text.proofs.Taken.{main_below}
-use Rattle.function_steps.proofs.Places.{found}
+use Rattle.frame_steps.proofs.Places.{found}
 use Rattle.model_programs.specs.Evaluation.{Store}
 use Rattle.model_programs.specs.Elisions.{first_store, EvaluatesProgram}
 use Rattle.model_runs.specs.Runs.{IsRun}

@@ -21,7 +21,7 @@ use Rattle.model_programs.specs.Scripts.{script}
 use Rattle.model_programs.specs.Answers.{FromSpawn}
 use Rattle.model_programs.specs.Exchanges.{Exchange}
 use Rattle.model_programs.specs.Dialogue.{Whole, DialogueOf}
-use Rattle.function_steps.proofs.Places.{found}
+use Rattle.frame_steps.proofs.Places.{found}
 use Rattle.frame_steps.proofs.Histories.{dialogue_with}
 use Rattle.model_programs.specs.Evaluation.{Effect}
 use Rattle.model_runs.specs.Frames.{IsSplit, HasSplit, HasFrame, Targets, target_of, said_by}

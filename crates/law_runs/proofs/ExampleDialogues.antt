@@ -14,8 +14,8 @@ use Rattle.model_programs.specs.Scripts.{script, first_part, second_part}
 use Rattle.model_programs.specs.Answers.{FromSpawn}
 use Rattle.model_programs.specs.Exchanges.{Exchange}
 use Rattle.model_programs.specs.Dialogue.{Part, Dialogue, passed, DialogueOf}
-use Rattle.function_steps.specs.Requests.{act_of, answered}
-use Rattle.frame_steps.specs.Requests.{Follows}
+use Rattle.frame_steps.specs.Requests.{act_of, answered}
+use Rattle.frame_steps.specs.Exchanges.{Follows}
 use Rattle.frame_steps.proofs.Histories.{dialogue_with}
 use Rattle.frame_steps.proofs.Dialogues.{follows_is, answer_stack, stack_only}
 use Rattle.model_runs.specs.Frames.{Targets, HasSplit, HasFrame, said_by}

@@ -23,7 +23,7 @@ use Rattle.model_programs.specs.Scripts.{script, closing, numbers, Passes, assig
 use Rattle.model_programs.specs.Answers.{Origin, after_read, after_get, after_write, after_update, after_spawn, after_sync}
 use Rattle.model_programs.specs.Exchanges.{Exchange}
 use Rattle.model_programs.specs.Dialogue.{Extent, Dialogue, stopped, passed, read, write, bump, update, put, get, spawned, called, in_call, synced, returned}
-use Rattle.function_steps.proofs.Located.{sound_of}
+use Rattle.frame_steps.proofs.Located.{sound_of}
 use Rattle.model_programs.specs.Dialogue.{DialogueOf}
 use Rattle.model_runs.specs.Serial.{value_given}
 use Rattle.law_runs.specs.Numbers.{IsNumbered}

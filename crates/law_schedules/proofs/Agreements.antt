@@ -12,14 +12,14 @@ use Rattle.model_histories.specs.declared.answer.Answer.{Answer}
 use Rattle.model_histories.specs.declared.answer.Answer.TheVariants.{Split, Same, Joined, Waits, Resumed, Granted, Value, Refused, Unset}
 use Rattle.model_programs.specs.Values.{Registers, first_registers, value_of}
 use Rattle.model_programs.specs.Scripts.{script, Passes}
-use Rattle.function_steps.specs.Scripts.{PassesAll, none_passed, one_more}
+use Rattle.frame_steps.specs.Scripts.{PassesAll, none_passed, one_more}
 use Rattle.model_programs.specs.Answers.{Origin, FromCall, FromSpawn, IsReturned, after_read, after_get, after_write, after_update, after_spawn, after_sync}
 use Rattle.model_programs.specs.Exchanges.{Exchange, exchange}
 use Rattle.model_programs.specs.Dialogue.{Extent, Whole, Part, Dialogue, passed, read, write, bump, update, put, get, spawned, called, in_call, synced, returned}
-use Rattle.function_steps.specs.Requests.{act_of, answered}
-use Rattle.function_steps.specs.Activations.{asked_act}
+use Rattle.frame_steps.specs.Requests.{act_of, answered}
+use Rattle.frame_steps.specs.Activations.{asked_act}
 use Rattle.frame_steps.proofs.Histories.{dialogue_with}
-use Rattle.frame_steps.specs.Requests.{Follows, tree_at}
+use Rattle.frame_steps.specs.Exchanges.{Follows, tree_at}
 use Rattle.frame_steps.specs.Stacks.{Standing, StackDialogue, NextStack, origin_of}
 use Rattle.frame_steps.proofs.Replies.{act_is, belongs_answered}
 use Rattle.frame_steps.proofs.Dialogues.{follows_is, returns_is, passed_stack, answer_stack, call_stack, return_stack, last_return, stack_only}

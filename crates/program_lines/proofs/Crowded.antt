@@ -4,8 +4,8 @@ use Rattle.std.specs.Prelude.{Some, ◌⊎◌}
 use Rattle.model_accesses.specs.declared.kind.Kind.TheVariants as kind
 use Rattle.text_words.specs.declared.fault.Cause.{Cause}
 use Rattle.text_words.specs.declared.fault.Cause.TheVariants.{NotText, BadHeader, BadNesting, NoMain, TooMany}
-use Rattle.line_grammar.specs.LineGrammar.{IsArranged, SomeFault}
-use Rattle.line_grammar.proofs.Outcomes.{split_option, nowhere}
+use Rattle.trace_text.specs.LineGrammar.{IsArranged, SomeFault}
+use Rattle.trace_text.proofs.LineOutcomes.{split_option, nowhere}
 use Rattle.program_lines.specs.declared.keyword.Keyword.{Keyword}
 use Rattle.program_lines.specs.declared.keyword.Keyword.TheVariants.{Mem, Reducer, Func, Let, Access, Spawn, Call, Sync, ParallelFor, If, Else, End}
 use Rattle.trace_text.specs.Lines as trace

@@ -26,8 +26,8 @@ use Rattle.program_lines.specs.Scopes.{NameScope, register_named}
 use Rattle.program_lines.specs.Places.{Place, Common, FreshName, OperandWord, LocationWord, AssignedRegister, KnownRegister, FunctionName, ParameterName, Sign, Exactly, Value, Plain, OfOperand, OfLocation, OfRegister, OfAssigned, OfSign, Nothing, WordMeans, OperandMeans, ElementMeans, LocationMeans, AssignedMeans}
 use Rattle.program_lines.specs.Grammar.{Item, Blank, Declared, Reduces, Begins, Does, Decides, Otherwise, Ends, ItemMeans, number_if_there, keyword_of_statement, statement_values}
 use Rattle.program_lines.proofs.Keywords.{sign_once}
-use Rattle.line_grammar.proofs.LineFaults.{IsSaid, said_once, said_clean}
-use Rattle.line_grammar.proofs.Formed.{first_or, behind_first}
+use Rattle.trace_text.proofs.LineFaults.{IsSaid, said_once, said_clean}
+use Rattle.trace_text.proofs.Formed.{first_or, behind_first}
 use Rattle.text_words.specs.declared.fault.Cause.{Cause}
 use Rattle.program_lines.specs.Faults.{WordsFault}
 use Rattle.program_lines.proofs.Outcomes.{clear}

@@ -5,7 +5,7 @@ use Rattle.std.specs.Prelude.{Option, Some, None, Result, Ok, Err}
 use Rattle.text_words.specs.declared.fault.Cause.{Cause}
 use Rattle.text_words.specs.declared.fault.Cause.TheVariants.{NotText, BadHeader, BadWord, BadNumber, UnknownName, TwiceNamed, BadNesting, NoMain, TooMany}
 use Rattle.text_words.specs.Causes.{IsLowest, cause_number, both_of}
-use Rattle.line_grammar.proofs.Outcomes.{IsClear, reads as word_and_rest}
+use Rattle.trace_text.proofs.LineOutcomes.{IsClear, reads as word_and_rest}
 use Rattle.trace_text.specs.Lines as trace
 use Rattle.trace_text.specs.Outcome.{Fits as FitsCommon}
 use Rattle.text_words.specs.Text.{IsName}

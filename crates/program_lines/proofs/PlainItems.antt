@@ -16,7 +16,7 @@ use Rattle.trace_text.proofs.CellWords.{found_of_all}
 use Rattle.trace_text.proofs.PlainPlaces.{IsSmall, first_or_later, position_above, same_memory, found_name, single_plain, brackets, word_plain as common_plain}
 use Rattle.trace_text.specs.Plain.{IsPlain, ArePlain}
 use Rattle.trace_text.proofs.PlainWords.{decimal_number, decimal_plain, name_plain, words_spaced, text_spaced}
-use Rattle.line_grammar.proofs.PlainWords.{says_plain as words_say_plain}
+use Rattle.trace_text.proofs.LineWords.{says_plain as words_say_plain}
 use Rattle.program_lines.specs.declared.keyword.Keyword.{Keyword}
 use Rattle.program_lines.specs.declared.keyword.Keyword.TheVariants as begin
 use Rattle.program_lines.specs.declared.operator.Operator.{Operator}

@@ -9,7 +9,7 @@ use Rattle.text_words.specs.Limits.{max_value}
 use Rattle.text_words.specs.Names.{memory_named, reducer_named, IsDeclared, IsFresh as IsUndeclaredName}
 use Rattle.text_words.proofs.Decided.{OrNot, both_or_not, below_or_not, most_or_not, word_or_not, name_or_not}
 use Rattle.text_words.specs.Text.{IsName}
-use Rattle.line_grammar.proofs.Readings.{Reading as ReadingBy}
+use Rattle.trace_text.proofs.LineReadings.{Reading as ReadingBy}
 use Rattle.trace_text.specs.Lines as trace
 use Rattle.trace_text.specs.Cells.{IsSingleFault}
 use Rattle.trace_text.specs.Faults.{IsUndeclared}

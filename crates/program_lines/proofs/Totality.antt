@@ -7,8 +7,8 @@ use Rattle.text_words.specs.declared.value.Version.TheVariants.{One, Two}
 use Rattle.text_words.specs.Causes.{IsLowest}
 use Rattle.model_accesses.specs.Limits.{most_cells}
 use Rattle.text_words.proofs.Decided.{OrNot}
-use Rattle.line_grammar.proofs.Formed.{behind_first, line_formed, all_formed as all_formed_by}
-use Rattle.line_grammar.proofs.Readings.{Told as ToldBy, line_told as line_told_by}
+use Rattle.trace_text.proofs.Formed.{behind_first, line_formed, all_formed as all_formed_by}
+use Rattle.trace_text.proofs.LineReadings.{Told as ToldBy, line_told as line_told_by}
 use Rattle.trace_text.specs.Lines as trace
 use Rattle.program_lines.specs.declared.keyword.Keyword.{Keyword}
 use Rattle.program_lines.specs.declared.keyword.Keyword.TheVariants as begin

@@ -4,7 +4,7 @@ use Rattle.std.specs.Prelude.{Option, Some, IsTrue}
 use Rattle.std.specs.List.{All, position_from}
 use Rattle.text_words.specs.declared.value.Mem.{Mem}
 use Rattle.text_words.specs.Declarations.{cells_of}
-use Rattle.line_grammar.proofs.Outcomes.{first_means}
+use Rattle.trace_text.proofs.LineOutcomes.{first_means}
 use Rattle.trace_text.specs.Lines as trace
 use Rattle.text_words.specs.Names.{IsDeclared}
 use Rattle.trace_text.specs.Shapes.{is_numbered}

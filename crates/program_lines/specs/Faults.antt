@@ -6,7 +6,7 @@ use Rattle.text_words.specs.Text.{IsName, IsNumberIn, BeginsWithDigit}
 use Rattle.text_words.specs.Limits.{max_value}
 use Rattle.text_words.specs.Names.{element_word}
 use Rattle.trace_text.specs.Faults.{IsUndeclared, WordFault as CommonFault}
-use Rattle.line_grammar.specs.LineGrammar as line
+use Rattle.trace_text.specs.LineGrammar as line
 use Rattle.program_lines.specs.declared.operator.Operator.{Operator}
 use Rattle.program_lines.specs.Scopes.{NameScope, max_registers, register_named, function_named, IsFresh}
 use Rattle.program_lines.specs.Places.{Place, Common, FreshName, OperandWord, LocationWord, AssignedRegister, KnownRegister}

@@ -1,7 +1,7 @@
 -- The items that the code makes of lines.
 use Rattle.std.specs.Prelude.{ℕ, List, ◌∷◌, Result, MatchResult, option_copied}
 use Rattle.text_words.specs.declared.fault.Cause.{Cause}
-use Rattle.line_grammar.specs.LineGrammar.{IsPlacedFault}
+use Rattle.trace_text.specs.LineGrammar.{IsPlacedFault}
 use Rattle.program_lines.specs.declared.keyword.Keyword.{Keyword}
 use Rattle.program_lines.specs.declared.keyword.Keyword.TheVariants.{Reducer, Func, Access, Spawn, Call}
 use Rattle.program_lines.specs.declared.item.Item as code

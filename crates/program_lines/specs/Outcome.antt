@@ -1,7 +1,7 @@
 -- What the code's places read: a value, or the lowest cause.
 use Rattle.std.specs.Prelude.{ℕ, Result, List}
 use Rattle.text_words.specs.declared.fault.Cause.{Cause}
-use Rattle.line_grammar.specs.LineGrammar as line
+use Rattle.trace_text.specs.LineGrammar as line
 use Rattle.program_lines.specs.Scopes.{NameScope}
 use Rattle.program_lines.specs.Places.{Place, Value, WordMeans}
 use Rattle.program_lines.specs.Faults.{WordFault}

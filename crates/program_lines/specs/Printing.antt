@@ -6,7 +6,7 @@ use Rattle.text_words.specs.declared.value.Version.{Version}
 use Rattle.text_words.specs.declared.value.Mem.{Mem}
 use Rattle.text_words.specs.declared.value.Reducer.{Reducer}
 use Rattle.text_words.specs.Names.{element_word}
-use Rattle.line_grammar.specs.LineGrammar as line
+use Rattle.trace_text.specs.LineGrammar as line
 use Rattle.trace_text.specs.Shapes.{has_cell, name_of_cell}
 use Rattle.trace_text.specs.Lines.{OfName, OfNumber, OfMonoid}
 use Rattle.trace_text.specs.Printing.{plain_word as common_word, known_of}

@@ -6,8 +6,8 @@ use Rattle.text_words.specs.declared.value.Version.{Version}
 use Rattle.text_words.specs.Names.{IsSecond}
 use Rattle.model_accesses.specs.Limits.{most_cells}
 use Rattle.trace_text.specs.Lines as trace
-use Rattle.line_grammar.specs.LineGrammar as line
-use Rattle.line_grammar.specs.LineGrammar.{Table}
+use Rattle.trace_text.specs.LineGrammar as line
+use Rattle.trace_text.specs.LineGrammar.{Table}
 use Rattle.program_lines.specs.declared.keyword.Keyword.{Keyword}
 use Rattle.program_lines.specs.declared.keyword.Keyword.TheVariants.{Mem, Reducer, Func, Let, Access, Spawn}
 use Rattle.program_lines.specs.declared.keyword.Keyword.TheVariants.{Call, Sync, ParallelFor, If, Else, End}

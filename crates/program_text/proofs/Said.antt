@@ -9,7 +9,7 @@ use Rattle.model_bodies.specs.declared.statement.Register.{Register}
 use Rattle.model_bodies.specs.declared.statement.Statement.{Statement}
 use Rattle.model_bodies.specs.declared.statement.Statement.TheVariants.{Let, Read, Get, ParallelFor, If, Else, End}
 use Rattle.text_words.specs.Names.{IsFresh as IsUndeclaredName}
-use Rattle.line_grammar.proofs.Outcomes.{first_means, last_means}
+use Rattle.trace_text.proofs.LineOutcomes.{first_means, last_means}
 use Rattle.trace_text.specs.Lines as trace
 use Rattle.model_accesses.specs.declared.kind.Kind.TheVariants as kind
 use Rattle.program_lines.specs.Scopes.{NameScope, IsFresh, HasNotBegun}

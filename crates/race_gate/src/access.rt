@@ -4,8 +4,8 @@ ghost use Rattle.std.specs.Prelude.{◌≡◌};
 ghost use Rattle.race_gate.specs.Accesses.{access_of, act_of_sort};
 
 use access_table::Kind;
+use model_accesses::Act;
 use model_races::CellAccess;
-use text_words::Act;
 
 /// An act of control of the strands.
 #[derive(Clone, Copy)]

@@ -14,11 +14,12 @@ ghost use Rattle.model_histories.specs.Admission.{IsAdmitted, IsOfTheGate};
 
 use crate::history::{History, NewHistory};
 use crate::judging::Core;
+use model_accesses::Request;
 use model_histories::{Entry, GateFault, Receipt};
 use packed_history::Entries;
 use std::alloc::{AllocError, Allocator, Global};
 use std::marker::Model;
-use text_words::{Request, Shape};
+use text_words::Shape;
 
 /// A gate: it judges requests one after another and keeps the history of its answers, in a vector unless another list is named. Contracts
 /// see its shape, its limit, whether it was stopped, its history, the newest entry first, and what its cells hold.

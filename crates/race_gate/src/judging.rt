@@ -19,10 +19,11 @@ ghost use Rattle.race_gate.specs.Accesses.{act_of_control, act_of_cell, act_of_r
 use crate::access::{CellAct, ControlAct, ReducerAct};
 use crate::step::is_in_range;
 use crate::tracks::Tracks;
+use model_accesses::{Act, Request};
 use model_histories::{Answer, GateFault, Receipt, Reply};
 use std::alloc::{AllocError, Allocator};
 use std::marker::Model;
-use text_words::{Act, Monoids, Request, Shape};
+use text_words::{Monoids, Shape};
 
 /// All of a gate but its history: it judges requests one after another as a gate does, and counts its answers in place of keeping them.
 /// Contracts speak of every state of a gate that fits it; whoever wants one state keeps it, and gets the next one from each request.

@@ -15,11 +15,12 @@ ghost use Rattle.race_gate.specs.Books.{IsRefusal, MayRead, answered_act, Answer
 use crate::access::ReducerAct;
 use access_table::{Kind, rule};
 use branch_names::Branches;
+use model_accesses::Act;
 use model_histories::Answer;
+use model_reducers::Monoid;
 use reducer_views::Views;
 use std::alloc::{AllocError, Allocator};
 use std::marker::Model;
-use text_words::{Act, Monoid};
 use view_read_rule::{ReadPeers, ViewVerdict};
 
 /// The branches of the strands, the first granted read of each reducer, and the strands' views of reducers.

@@ -7,9 +7,9 @@ ghost use Rattle.model_histories.specs.Replies.{Judges, JudgesAll};
 ghost use Rattle.model_histories.specs.Admission.{AdmitsAll};
 
 use crate::gate::Gate;
+use model_accesses::Request;
 use model_histories::Reply;
 use std::alloc::{AllocError, Allocator};
-use text_words::Request;
 
 /// Judges a request, and gives the reply to it.
 fn reply_to<A: Allocator + Clone>(gate: &mut Gate<A>, request: Request) -> Reply

@@ -21,13 +21,14 @@ ghost use Rattle.race_gate.specs.Steps.{FollowsWith, GoesOn, numbered_access, Is
 
 use crate::access::{CellAct, ControlAct, ReducerAct, access_of};
 use crate::reducers::ReducerTracks;
-use access_table::{is_memory, rule};
+use access_table::{asked_by, is_memory, rule};
+use model_accesses::{Act, Asked};
 use model_histories::{Answer, GateFault};
 use model_races::CellAccess;
 use shadow_history::Shadow;
 use sp_labels::{Returned, SpFault, Strands, Synced};
 use std::alloc::Allocator;
-use text_words::{Act, Asked, Shape, asked_by};
+use text_words::Shape;
 
 /// Whether the cell or reducer that an act names is there.
 #[inline(always)]

@@ -11,11 +11,12 @@ ghost use Rattle.race_gate.specs.Accesses.{act_of_control, act_of_cell, act_of_r
 use crate::access::{CellAct, ControlAct, ReducerAct, Sort, sort_of};
 use crate::reducers::{ReducerTracks, opening_reducers};
 use crate::step::{control, judge_access, judge_reducer};
+use model_accesses::Request;
 use model_histories::{Answer, GateFault};
+use model_reducers::Monoid;
 use shadow_history::Shadow;
 use sp_labels::Strands;
 use std::alloc::{AllocError, Allocator};
-use text_words::{Monoid, Request};
 
 /// What is kept of the strands, of the granted accesses of cells, and of the reducers.
 #[derive(Drop)]

@@ -12,10 +12,10 @@ ghost use Rattle.model_histories.specs.Shapes.{most_entries};
 
 use crate::frames::place_now;
 use crate::kept::{Frame, Opener, Strand, Turn};
+use model_accesses::Act;
 use model_strands::Spawned;
 use race_gate::{Answer, Entry};
 use std::alloc::{AllocError, Allocator};
-use text_words::Act;
 
 /// What an entry adds to a lineage.
 #[derive(Clone, Copy)]

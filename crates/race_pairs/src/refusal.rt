@@ -3,9 +3,9 @@
 ghost use Rattle.std.specs.Prelude.{◌≡◌};
 ghost use Rattle.race_pairs.specs.Refusals.{reason_by, refusal_asked, refusal_told, side_of, named_by};
 
-use model_accesses::{Kind, Rule};
+use access_table::asked_by;
+use model_accesses::{Asked, Kind, Rule};
 use race_gate::{Answer, Entry};
-use text_words::{Asked, asked_by};
 
 /// Why an access was refused.
 #[derive(Clone, Copy, PartialEq, Eq)]

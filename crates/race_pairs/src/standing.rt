@@ -12,9 +12,9 @@ ghost use Rattle.model_histories.specs.Shapes.{Shape};
 ghost use Rattle.race_pairs.specs.Makers.{Began};
 ghost use Rattle.race_pairs.specs.Standings.{status_behind, IsStanding};
 
+use model_accesses::Act;
 use model_strands::Spawned;
 use race_gate::{Answer, Entry};
-use text_words::Act;
 
 /// What has become of a strand behind some entries.
 #[derive(Clone, Copy)]

@@ -19,9 +19,9 @@ use Rattle.model_bodies.specs.Codes.{Code}
 use Rattle.model_programs.specs.declared.target.Target.{Target}
 use Rattle.model_programs.specs.Values.{Registers}
 use Rattle.model_programs.specs.Exchanges.{Exchange}
-use Rattle.function_steps.specs.Activations.{asked_act}
+use Rattle.frame_steps.specs.Activations.{asked_act}
 use Rattle.frame_steps.specs.declared.phase.Phase.TheVariants.{Over}
-use Rattle.frame_steps.specs.Requests.{asked_target}
+use Rattle.frame_steps.specs.Exchanges.{asked_target}
 use Rattle.frame_steps.specs.Stacks.{StackDialogue}
 use Rattle.frame_steps.specs.States.{FrameState}
 use Rattle.frame_steps.specs.Frames.{Stands, Wants, IsAfter, CanFollow, MayAnswer, stack_in}

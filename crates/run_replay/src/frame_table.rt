@@ -17,8 +17,7 @@ ghost use Rattle.run_replay.specs.Wraps.{EntryWraps};
 ghost use Rattle.run_replay.specs.declared.turn.Misfit.{Misfit};
 
 use crate::turn::{Misfit, advance_frame};
-use frame_steps::Frame;
-use function_steps::Target;
+use frame_steps::{Frame, Target};
 use program_text::Program;
 use race_gate::{Answer, Entry};
 use std::alloc::{AllocError, Allocator};

@@ -9,8 +9,7 @@ ghost use Rattle.frame_steps.specs.Frames.{Stands, Wants};
 ghost use Rattle.run_replay.specs.Turns.{IsTurn, HasNoTurn, IsEntered, IsOdd};
 ghost use Rattle.run_replay.specs.declared.turn.Misfit.{Misfit};
 
-use frame_steps::{Frame, FrameFault};
-use function_steps::Target;
+use frame_steps::{Frame, FrameFault, Target};
 use model_accesses::Act;
 use program_text::Program;
 use race_gate::{Answer, Core, Entry, GateFault};

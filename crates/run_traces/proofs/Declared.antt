@@ -21,7 +21,7 @@ use Rattle.trace_text.proofs.Kept.{cells_cons}
 use Rattle.program_lines.specs.declared.keyword.Keyword.TheVariants as word
 use Rattle.program_lines.specs.Scopes.{NameScope}
 use Rattle.program_lines.specs.Places.{Common, FreshName, Plain, WordMeans}
-use Rattle.line_grammar.proofs.Outcomes.{first_means}
+use Rattle.trace_text.proofs.LineOutcomes.{first_means}
 use Rattle.program_lines.specs.Table.{Placed, placed, WordsMean}
 use Rattle.program_lines.specs.Grammar.{Item, Blank, Declared, Reduces, Begins, Does, Decides, Otherwise, Ends}
 use Rattle.program_text.specs.declared.open_function.Part.{Part}

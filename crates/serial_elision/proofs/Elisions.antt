@@ -24,8 +24,8 @@ use Rattle.serial_elision.specs.Evaluation.{Standing, StackEvaluates, configurat
 use Rattle.model_programs.specs.Elisions.{first_store, HasMain, Elides, NeedsMore}
 use Rattle.serial_elision.specs.States.{ElisionState, store_of, with_store, with_top, moved, turning, begun, with_begun, left_at, left_in, standing_in, standing, callers_of, stack_in, stack_of, configuration_of, are_turns, length_in, IsInPlace, Stands, Makes, IsOpening, IsLeft, is_left, first_state}
 use Rattle.program_text.proofs.Taken.{main_below}
-use Rattle.function_steps.proofs.Trees.{and_then_assoc, if_left}
-use Rattle.function_steps.proofs.Places.{drop_at, found}
+use Rattle.frame_steps.proofs.Trees.{and_then_assoc, if_left}
+use Rattle.frame_steps.proofs.Places.{drop_at, found}
 use Rattle.serial_elision.proofs.Evaluations.{leads_nowhere, leads_on, sync_leads, first_leads, second_leads, end_leads, turn_leads}
 
 -- ---- lists of callers

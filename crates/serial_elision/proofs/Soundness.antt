@@ -10,7 +10,7 @@ use Rattle.model_reducers.specs.Products.{monoid_of}
 use Rattle.program_text.specs.declared.program.Program.{Program}
 use Rattle.serial_elision.specs.declared.activation.ElidedCall.{ElidedCall}
 use Rattle.serial_elision.specs.States.{ElisionState, Stands, IsInPlace, length_in, monoids_in}
-use Rattle.function_steps.proofs.Places.{found}
+use Rattle.frame_steps.proofs.Places.{found}
 use Rattle.std.proofs.lemmas.Option.{slice_get_within, get_or_from_slice_get}
 use Rattle.model_bodies.specs.declared.statement.Statement.{Statement}
 use Rattle.model_bodies.specs.Bodies.{EndsAt, part_end}

@@ -15,7 +15,7 @@ ghost use Rattle.serial_elision.specs.Statements.{is_access, is_invocation, is_r
 ghost use Rattle.model_programs.specs.Elisions.{Elides, NeedsMore};
 
 use crate::activation::{ElidedCall, Turns};
-use function_steps::{cell_of, result_of, value_of};
+use frame_steps::{cell_of, result_of, value_of};
 use model_bodies::{Expression, Location, Operand, Register, Statement};
 use program_text::{Function, Program};
 use reducer_views::{View, combine, identity, of_put, of_update, value};

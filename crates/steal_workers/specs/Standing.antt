@@ -7,10 +7,10 @@ use native.Mathlib.Bridge.{le_prop}
 use Rattle.model_accesses.specs.declared.request.Act.{Act}
 use Rattle.model_bodies.specs.declared.statement.Statement.{Statement}
 use Rattle.model_bodies.specs.Codes.{Code}
-use Rattle.function_steps.specs.declared.activation.Turn.{Turn}
-use Rattle.function_steps.specs.declared.activation.Turn.TheVariants.{Plainly, Numbering, Spawning, Returning}
-use Rattle.function_steps.specs.declared.activation.Activation.{Activation}
-use Rattle.function_steps.specs.Activations.{statement_of, asked_act, IsTurn, StandsIn, IsInPlace}
+use Rattle.frame_steps.specs.declared.activation.Turn.{Turn}
+use Rattle.frame_steps.specs.declared.activation.Turn.TheVariants.{Plainly, Numbering, Spawning, Returning}
+use Rattle.frame_steps.specs.declared.activation.Activation.{Activation}
+use Rattle.frame_steps.specs.Activations.{statement_of, asked_act, IsTurn, StandsIn, IsInPlace}
 use Rattle.frame_steps.specs.States.{FrameState}
 use Rattle.frame_steps.specs.Frames.{Stands, IsAsking}
 

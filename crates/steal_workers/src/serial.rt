@@ -3,7 +3,7 @@
 ghost use Rattle.std.specs.Prelude.{◌≡◌, ◌<◌, IfOk, IfSome, length};
 
 use crate::task::{Spare, Task};
-use function_steps::Target;
+use frame_steps::Target;
 use locked_replay::RunFault;
 use program_text::Program;
 use race_gate::{Answer, ShortGate};

@@ -8,8 +8,7 @@ ghost use Rattle.model_programs.specs.Exchanges.{Exchange};
 ghost use Rattle.steal_workers.specs.Standing.{stands_once};
 
 use crate::fault::frame_fault_of;
-use frame_steps::Frame;
-use function_steps::Target;
+use frame_steps::{Frame, Target};
 use locked_replay::RunFault;
 use program_text::Program;
 use race_gate::Answer;

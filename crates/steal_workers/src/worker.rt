@@ -13,7 +13,7 @@ use crate::steal_handle::StealHandle;
 use crate::task::{NextRequest, Spare, Task};
 use crate::worker_deques::WorkerDeques;
 use crossbeam_utils::Backoff;
-use function_steps::Target;
+use frame_steps::Target;
 use locked_replay::{Ask, RunFault, Seat, WorkerLog};
 use packed_history::Receipts;
 use program_text::Program;

@@ -19,7 +19,7 @@ use Rattle.text_words.specs.Limits.{most_requests}
 use Rattle.text_words.specs.Values.{Known, Contents}
 use Rattle.text_words.specs.Names.{CellMeans}
 use Rattle.std.specs.Option.{option_to_list}
-use Rattle.line_grammar.proofs.Outcomes.{first_means, last_means}
+use Rattle.trace_text.proofs.LineOutcomes.{first_means, last_means}
 use Rattle.trace_text.specs.Lines.{Place, FreshName, Number, Placed, placed, Value, OfName, OfNumber, WordMeans, WordsMean, Cell, ReducerName, a_strand, a_value, Mark, wanted, optional, asks, operands, if_there}
 use Rattle.text_words.specs.Declarations.{cells_of, memory_at, reducer_at}
 use Rattle.trace_text.specs.Grammar.{Item, Blank, Declared, Reduces, Asked, ItemMeans, LineMeans, LinesMean, LinesOfTrace, TextMeans, extended, nothing}

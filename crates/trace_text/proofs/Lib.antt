@@ -1,3 +1,8 @@
+pub mod LineOutcomes
+pub mod LineFaults
+pub mod LineReadings
+pub mod LineWords
+pub mod Formed
 pub mod Numbers
 pub mod Keywords
 pub mod CellWords

@@ -19,8 +19,8 @@ use Rattle.trace_text.specs.Lines.{Place, FreshName, Number, Cell, ReducerName, 
 use Rattle.trace_text.specs.Grammar.{Item, Blank, Declared, Reduces, Asked, ItemMeans, LineMeans}
 use Rattle.trace_text.proofs.CellWords.{same_some, same_split, name_no_bracket, no_element, flat}
 use Rattle.trace_text.proofs.Keywords.{monoid_once}
-use Rattle.line_grammar.proofs.LineFaults.{IsSaid, said_once, said_clean}
-use Rattle.line_grammar.proofs.Formed.{first_or, behind_first}
+use Rattle.trace_text.proofs.LineFaults.{IsSaid, said_once, said_clean}
+use Rattle.trace_text.proofs.Formed.{first_or, behind_first}
 use Rattle.text_words.specs.declared.fault.Cause.{Cause}
 use Rattle.trace_text.specs.Faults.{WordsFault}
 use Rattle.trace_text.specs.Items.{line_asked}

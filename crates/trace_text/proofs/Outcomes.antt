@@ -10,8 +10,8 @@ use Rattle.text_words.specs.Text.{IsName, IsNumberIn, BeginsWithDigit}
 use Rattle.text_words.specs.Limits.{max_strand}
 use Rattle.text_words.specs.Values.{Known}
 use Rattle.text_words.specs.Names.{IsFresh, MonoidMeans, reducer_named}
-use Rattle.line_grammar.specs.LineGrammar.{SomeFault}
-use Rattle.line_grammar.proofs.Outcomes.{IsClear, takes as word_and_rest}
+use Rattle.trace_text.specs.LineGrammar.{SomeFault}
+use Rattle.trace_text.proofs.LineOutcomes.{IsClear, takes as word_and_rest}
 use Rattle.trace_text.specs.Lines.{Place, FreshName, Number, Cell, ReducerName, MonoidWord, Mark, Value, OfName, OfNumber, OfMonoid, WordMeans, table, if_there}
 use Rattle.text_words.specs.Causes.{IsLowest, cause_number, both_of}
 use Rattle.trace_text.specs.Faults.{WordFault}

@@ -18,7 +18,7 @@ use Rattle.text_words.specs.Text.{words, IsTextLine, IsName, IsNumber}
 use Rattle.text_words.specs.Limits.{max_strand, max_value}
 use Rattle.text_words.specs.Values.{Known, monoid_spelling}
 use Rattle.text_words.specs.Names.{CellMeans, SingleMeans, ElementMeans, memory_named, reducer_named, element_word, IsFresh}
-use Rattle.line_grammar.proofs.PlainWords.{says_plain as words_say_plain}
+use Rattle.trace_text.proofs.LineWords.{says_plain as words_say_plain}
 use Rattle.trace_text.specs.Lines.{Place, FreshName, Number, Cell, ReducerName, MonoidWord, Mark, Value, OfName, OfNumber, OfMonoid, WordMeans, Says, table, spelling, wanted, optional}
 use Rattle.trace_text.specs.Shapes.{is_numbered, has_cell, name_in, name_found, name_of_cell}
 use Rattle.trace_text.specs.Printing.{plain_word, plain_words, plain_line, name_of_reducer}

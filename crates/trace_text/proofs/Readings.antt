@@ -14,7 +14,7 @@ use Rattle.text_words.specs.Values.{Known, monoid_spelling}
 use Rattle.text_words.specs.Names.{memory_named, reducer_named, IsDeclared, HasMonoid, MonoidMeans, SingleMeans, ElementMeans}
 use Rattle.text_words.specs.Causes.{IsLowest, cause_number}
 use Rattle.text_words.proofs.Decided.{OrNot, both_or_not, number_or_not, most_or_not, same_parts, word_or_not, name_or_not, digit_or_not, number_in_or_not}
-use Rattle.line_grammar.proofs.Readings.{Reading as ReadingBy}
+use Rattle.trace_text.proofs.LineReadings.{Reading as ReadingBy}
 use Rattle.trace_text.specs.Lines.{Place, FreshName, Number, Cell, ReducerName, MonoidWord, Mark, OfName, OfNumber, OfMonoid, WordMeans}
 use Rattle.trace_text.specs.Faults.{IsUndeclared, WordFault}
 use Rattle.trace_text.specs.Cells.{IsSingleFault, IsElementFault}

@@ -11,7 +11,7 @@ use Rattle.text_words.specs.Causes.{both_of}
 use Rattle.trace_text.specs.declared.keyword.Keyword.TheVariants.{Access}
 use Rattle.trace_text.specs.Lines.{Place, Cell, ReducerName, a_strand, a_value, Mark, OfNumber, if_there, asks, operands, placed, wanted, optional, spelling, IsControl, HasKeyword}
 use Rattle.trace_text.specs.Grammar.{ItemMeans}
-use Rattle.line_grammar.specs.LineGrammar.{IsPlacedFault}
+use Rattle.trace_text.specs.LineGrammar.{IsPlacedFault}
 use Rattle.trace_text.specs.Faults.{WordFault}
 use Rattle.trace_text.specs.Outcome.{TakesWord, TakesValue, Fits}
 use Rattle.trace_text.specs.Items.{line_asked, place_of, access_of}

@@ -13,9 +13,9 @@ use Rattle.text_words.specs.declared.fault.TextFault.TheVariants.{At, Memory}
 use Rattle.std.specs.Str.Lines.{strip_carriage_return}
 use Rattle.text_words.specs.Text.{words, lines, pieces, IsTextLine}
 use Rattle.text_words.specs.Values.{Known, Contents}
-use Rattle.line_grammar.specs.LineGrammar.{IsArranged}
-use Rattle.line_grammar.proofs.Outcomes.{nowhere}
-use Rattle.line_grammar.proofs.LineFaults.{arranged_once}
+use Rattle.trace_text.specs.LineGrammar.{IsArranged}
+use Rattle.trace_text.proofs.LineOutcomes.{nowhere}
+use Rattle.trace_text.proofs.LineFaults.{arranged_once}
 use Rattle.trace_text.specs.Lines.{Placed, table, asks, declares, spelling}
 use Rattle.trace_text.specs.Grammar.{Item, Blank, Declared, Reduces, Asked, ItemMeans, IsInOrder, HasRoom, extended, nothing, LineMeans, LinesMean, LinesOfTrace, TextMeans, IsHeader}
 use Rattle.text_words.specs.Causes.{IsLowest, cause_number}

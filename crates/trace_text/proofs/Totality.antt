@@ -14,7 +14,7 @@ use Rattle.text_words.specs.Values.{Known, Contents, version_spelling}
 use Rattle.text_words.specs.Declarations.{cells_of}
 use Rattle.text_words.specs.Causes.{IsLowest, cause_number}
 use Rattle.text_words.proofs.Decided.{OrNot, word_or_not, below_or_not, most_or_not, empty_or_not, text_line_or_not}
-use Rattle.line_grammar.proofs.Readings.{Told, line_told as line_told_by}
+use Rattle.trace_text.proofs.LineReadings.{Told, line_told as line_told_by}
 use Rattle.trace_text.specs.declared.keyword.Keyword.{Keyword}
 use Rattle.trace_text.specs.declared.keyword.Keyword.TheVariants.{Mem as MemWord, Reducer as ReducerWord, Spawn, Call, Sync, Return, Access}
 use Rattle.trace_text.specs.Lines.{table, Place, FreshName, Number, Cell, ReducerName, MonoidWord, Mark, Value, OfName, OfNumber, OfMonoid, wanted, optional, HasKeyword, WordMeans, Says, if_there}
@@ -22,7 +22,7 @@ use Rattle.trace_text.specs.Grammar.{Item, Blank, Declared, Reduces, Asked, Item
 use Rattle.trace_text.specs.Faults.{WordsFault, LineFault, HeaderFault, LinesFault, FaultOfLines}
 use Rattle.trace_text.specs.Laws.{MeaningOrFault}
 use Rattle.trace_text.proofs.Outcomes.{clear}
-use Rattle.line_grammar.proofs.Formed.{behind_first, all_formed, line_formed}
+use Rattle.trace_text.proofs.Formed.{behind_first, all_formed, line_formed}
 use Rattle.std.specs.Option.{option_to_list}
 use Rattle.trace_text.proofs.Once.{item_clean, number_in, name_in, monoid_in, count_in, first_of_values, item_by}
 use Rattle.trace_text.proofs.RoomFaults.{lowest_of_room, lowest_of_words, lines_of_trace}

@@ -11,7 +11,7 @@ use Rattle.text_words.specs.Values.{Contents, version_spelling}
 use Rattle.trace_text.specs.Grammar.{Item, HasRoom, extended, nothing, IsHeader, LineMeans, LinesMean, LinesOfTrace, TextMeans}
 use Rattle.text_words.specs.Causes.{IsLowest, cause_number}
 use Rattle.trace_text.specs.Faults.{LineFault, LinesFault, HeaderFault, FaultOfLines, TextFaults}
-use Rattle.line_grammar.proofs.LineFaults.{same_head}
+use Rattle.trace_text.proofs.LineFaults.{same_head}
 use Rattle.trace_text.proofs.RoomFaults.{out_of_order}
 use Rattle.trace_text.proofs.Once.{item_once, item_clean, line_once}
 

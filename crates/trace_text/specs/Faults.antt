@@ -12,8 +12,8 @@ use Rattle.text_words.specs.Limits.{max_strand, max_value, most_lines}
 use Rattle.text_words.specs.Values.{Known, Contents}
 use Rattle.text_words.specs.Causes.{IsLowest}
 use Rattle.text_words.specs.Names.{IsDeclared, IsFresh, element_word, reducer_named, MonoidMeans}
-use Rattle.line_grammar.specs.LineGrammar as line
-use Rattle.line_grammar.specs.LineGrammar.{IsArranged}
+use Rattle.trace_text.specs.LineGrammar as line
+use Rattle.trace_text.specs.LineGrammar.{IsArranged}
 use Rattle.trace_text.specs.Lines.{Place, FreshName, Number, Cell, ReducerName, MonoidWord, Mark, Placed, table, declares}
 use Rattle.trace_text.specs.Grammar.{Item, ItemMeans, LineMeans, HasRoom, IsHeader, nothing, extended}
 

@@ -1,7 +1,7 @@
 -- The items that the code makes of lines.
 use Rattle.std.specs.Prelude.{ℕ, Option, List, ◌∷◌, unwrap_or, is_some, Result, MatchResult}
 use Rattle.text_words.specs.declared.fault.Cause.{Cause}
-use Rattle.line_grammar.specs.LineGrammar.{IsPlacedFault}
+use Rattle.trace_text.specs.LineGrammar.{IsPlacedFault}
 use Rattle.trace_text.specs.declared.keyword.Keyword.{Keyword}
 use Rattle.trace_text.specs.declared.line.Item as code
 use Rattle.trace_text.specs.declared.line.Item.TheVariants as code_item

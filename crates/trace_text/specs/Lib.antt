@@ -1,3 +1,4 @@
+pub mod LineGrammar
 pub mod Lines
 pub mod Grammar
 pub mod Faults

@@ -7,8 +7,8 @@ use Rattle.text_words.specs.declared.value.Version.{Version}
 use Rattle.model_reducers.specs.declared.monoid.Monoid.{Monoid}
 use Rattle.model_accesses.specs.declared.request.Act.{Act}
 use Rattle.model_accesses.specs.declared.request.Act.TheVariants as act
-use Rattle.line_grammar.specs.LineGrammar as line
-use Rattle.line_grammar.specs.LineGrammar.{Table}
+use Rattle.trace_text.specs.LineGrammar as line
+use Rattle.trace_text.specs.LineGrammar.{Table}
 use Rattle.trace_text.specs.declared.keyword.Keyword.{Keyword}
 use Rattle.trace_text.specs.declared.keyword.Keyword.TheVariants.{Mem as MemWord, Reducer as ReducerWord, Spawn, Call, Sync, Return, Access}
 use Rattle.text_words.specs.Text.{IsName, IsNumberIn}

@@ -5,7 +5,7 @@ use Rattle.text_words.specs.declared.fault.Cause.{Cause}
 use Rattle.model_accesses.specs.declared.kind.Kind.{Kind}
 use Rattle.model_accesses.specs.declared.kind.Kind.TheVariants as kind
 use Rattle.text_words.specs.Values.{Known}
-use Rattle.line_grammar.specs.LineGrammar as line
+use Rattle.trace_text.specs.LineGrammar as line
 use Rattle.trace_text.specs.Lines.{Place, Value, WordMeans, a_value, OfNumber}
 use Rattle.trace_text.specs.Faults.{WordFault}
 

@@ -4,8 +4,8 @@ ghost use Rattle.std.specs.Prelude.{◌≡◌, ◌↔◌, Some};
 ghost use Rattle.trace_text.specs.declared.keyword.Keyword.{Keyword};
 ghost use Rattle.trace_text.specs.Lines.{spelling, asks, HasKeyword};
 
-use access_table::{Kind, kind_of, word};
-use text_words::{Act, Version, asked_by};
+use access_table::{Kind, asked_by, kind_of, word};
+use text_words::{Act, Version};
 
 /// The first word of a line.
 #[derive(Clone, Copy)]

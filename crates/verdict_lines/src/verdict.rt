@@ -10,12 +10,12 @@ ghost use Rattle.verdict_lines.specs.Rooms.{line_room};
 
 use crate::digit_cache::DigitCache;
 use crate::slice_text::{put_bytes, put_mostly_small, put_number, put_word};
-use access_table::{Kind, rule_word};
+use access_table::{Kind, asked_by, rule_word};
 use model_accesses::Witness;
 use model_strands::Spawned;
 use race_gate::{Answer, GateFault, Reply};
 use std::alloc::{AllocError, Allocator};
-use text_words::{Act, asked_by};
+use text_words::Act;
 
 /// Room for each verdict line, in bytes: the longest is of four numbers, of at most 20 digits each, and the words between them.
 pub const LINE_ROOM: usize = 96;

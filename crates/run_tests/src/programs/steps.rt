@@ -1,7 +1,7 @@
 //! Single steps of functions: what statements compute, ask and make of an answer.
 
 use super::gathered::REFUSED;
-use function_steps::{Activation, act_of, apply_answer, cell_of, line_of, result_of};
+use frame_steps::{Activation, act_of, apply_answer, cell_of, line_of, result_of};
 use program_text::{Expression, Location, Operand, REGISTERS, Statement};
 use race_gate::Answer;
 use text_words::Act;

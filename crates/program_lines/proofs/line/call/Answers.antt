@@ -2,7 +2,7 @@ use Rattle.std.proofs.Common.{refl, [], ◌∷◌, Bool, true, false, cond}
 use Rattle.trace_text.specs.Lines as trace
 use Rattle.program_lines.specs.declared.keyword.Keyword.TheVariants.{Spawn, Call}
 use Rattle.program_lines.specs.Places.{FunctionName, OperandWord, Plain, OfOperand}
-use Rattle.line_grammar.specs.LineGrammar.{IsPlacedFault}
+use Rattle.trace_text.specs.LineGrammar.{IsPlacedFault}
 use Rattle.program_lines.specs.Table.{placed, wanted, optional}
 use Rattle.program_lines.specs.Faults.{WordFault}
 use Rattle.program_lines.proofs.Outcomes.{two_words, said}

@@ -1,5 +1,5 @@
 use Rattle.std.proofs.Common.{refl}
-use Rattle.line_grammar.proofs.LineFaults.{line_read, lowest_unknown}
+use Rattle.trace_text.proofs.LineFaults.{line_read, lowest_unknown}
 use Rattle.program_lines.specs.Grammar.{ItemMeans}
 use Rattle.program_lines.specs.Items.{item_of}
 use Rattle.program_lines.proofs.Outcomes.{clear}

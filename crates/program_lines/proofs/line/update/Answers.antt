@@ -3,7 +3,7 @@ use Rattle.model_accesses.specs.declared.kind.Kind.TheVariants as kind
 use Rattle.trace_text.specs.Lines as trace
 use Rattle.program_lines.specs.declared.keyword.Keyword.TheVariants.{Access}
 use Rattle.program_lines.specs.Places.{Common, OperandWord, Plain, OfOperand}
-use Rattle.line_grammar.specs.LineGrammar.{IsPlacedFault}
+use Rattle.trace_text.specs.LineGrammar.{IsPlacedFault}
 use Rattle.program_lines.specs.Table.{placed, wanted, optional}
 use Rattle.program_lines.specs.Faults.{WordFault}
 use Rattle.program_lines.proofs.Outcomes.{two_words, said}

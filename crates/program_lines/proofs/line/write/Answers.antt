@@ -2,7 +2,7 @@ use Rattle.std.proofs.Common.{refl, [], ◌∷◌, Bool, true, false, cond}
 use Rattle.model_accesses.specs.declared.kind.Kind.TheVariants as kind
 use Rattle.program_lines.specs.declared.keyword.Keyword.TheVariants.{Access}
 use Rattle.program_lines.specs.Places.{LocationWord, OperandWord, OfLocation, OfOperand}
-use Rattle.line_grammar.specs.LineGrammar.{IsPlacedFault}
+use Rattle.trace_text.specs.LineGrammar.{IsPlacedFault}
 use Rattle.program_lines.specs.Table.{placed, wanted, optional}
 use Rattle.program_lines.specs.Faults.{WordFault}
 use Rattle.program_lines.proofs.Outcomes.{two_words, said}

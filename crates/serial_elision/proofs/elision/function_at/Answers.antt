@@ -1,5 +1,5 @@
 use Rattle.std.proofs.Common.{arith}
-use Rattle.function_steps.proofs.Places.{found, item_of}
+use Rattle.frame_steps.proofs.Places.{found, item_of}
 use Rattle.serial_elision.proofs.elision.function_at.Goals as goal
 
 pub returns : goal.returns

@@ -1,5 +1,5 @@
 use Rattle.std.proofs.Common.{refl}
-use Rattle.line_grammar.proofs.LineFaults.{line_read, lowest_unknown}
+use Rattle.trace_text.proofs.LineFaults.{line_read, lowest_unknown}
 use Rattle.trace_text.specs.Grammar.{ItemMeans}
 use Rattle.trace_text.specs.Items.{item_of}
 use Rattle.trace_text.proofs.Outcomes.{clear}

@@ -1,11 +1,11 @@
 use Rattle.std.proofs.Common.{◌≡◌, ◌∙◌, ap, sym, Some, None, length}
 use Rattle.text_words.specs.Declarations.{cells_of}
 use Rattle.model_bodies.specs.declared.statement.Statement.TheVariants.{Call}
-use Rattle.function_steps.specs.declared.activation.Activation.{Activation}
+use Rattle.frame_steps.specs.declared.activation.Activation.{Activation}
 use Rattle.model_programs.specs.Values.{value_of}
-use Rattle.function_steps.specs.Requests.{answered}
-use Rattle.function_steps.specs.Activations.{left, statement_of}
-use Rattle.function_steps.proofs.Takings.{taken, left_same, statement_same}
+use Rattle.frame_steps.specs.Requests.{answered}
+use Rattle.frame_steps.specs.Activations.{left, statement_of}
+use Rattle.frame_steps.proofs.Takings.{taken, left_same, statement_same}
 use Rattle.frame_steps.specs.Joins.{join_after}
 use Rattle.frame_steps.specs.States.{FrameState}
 use Rattle.frame_steps.proofs.Answered.{refused, left_answered, call_answered, statement_answered}

@@ -1,8 +1,8 @@
 use Rattle.std.proofs.Common.{◌∙◌, ap, subst, refl, length}
 use Rattle.text_words.specs.Declarations.{cells_of}
-use Rattle.function_steps.specs.declared.activation.Activation.{Activation}
-use Rattle.function_steps.specs.Scripts.{PassesAll}
-use Rattle.function_steps.specs.Activations.{left}
+use Rattle.frame_steps.specs.declared.activation.Activation.{Activation}
+use Rattle.frame_steps.specs.Scripts.{PassesAll}
+use Rattle.frame_steps.specs.Activations.{left}
 use Rattle.frame_steps.specs.States.{FrameState}
 use Rattle.frame_steps.proofs.Histories.{sought_after, wants_asked, wanted_follows}
 use Rattle.frame_steps.proofs.frame.Frame.next.Goals as goal

@@ -1,8 +1,8 @@
 use Rattle.std.proofs.Common.{◌≡◌, ◌≢◌, ◌↔◌, ◌∙◌, ap, sym, subst, Some}
-use Rattle.function_steps.specs.declared.activation.Activation.{Activation}
-use Rattle.function_steps.specs.Scripts.{PassesAll}
-use Rattle.function_steps.specs.Activations.{left}
-use Rattle.function_steps.specs.Wraps.{wrap_before}
+use Rattle.frame_steps.specs.declared.activation.Activation.{Activation}
+use Rattle.frame_steps.specs.Scripts.{PassesAll}
+use Rattle.frame_steps.specs.Activations.{left}
+use Rattle.frame_steps.specs.Wraps.{wrap_before}
 use Rattle.frame_steps.specs.declared.phase.Phase.TheVariants.{Over}
 use Rattle.frame_steps.specs.States.{FrameState}
 use Rattle.frame_steps.specs.Frames.{Wraps}

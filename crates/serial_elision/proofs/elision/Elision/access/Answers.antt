@@ -2,7 +2,7 @@ use Rattle.std.proofs.Common.{◌<◌, drop, ◌+◌, Some, refl, sym, ap, ◌�
 use Rattle.text_words.specs.Declarations.{cells_of}
 use Rattle.model_accesses.specs.declared.request.Act.{Act}
 use Rattle.model_programs.specs.Values.{cell_of, value_of}
-use Rattle.function_steps.proofs.Located.{placed, named}
+use Rattle.frame_steps.proofs.Located.{placed, named}
 use Rattle.model_bodies.specs.declared.statement.Statement.TheVariants.{Read, Write, Bump}
 use Rattle.serial_elision.specs.States.{state_of, store_of, monoids_in, callers_of, left_at}
 use Rattle.serial_elision.proofs.Soundness.{next_fits, next_within, within}

@@ -2,7 +2,7 @@ use Rattle.std.proofs.Common.{◌<◌, drop, ◌+◌, ◌≤◌, Some, sym, ap, 
 use Rattle.std.proofs.lemmas.Bool.{ltb-true}
 use Rattle.text_words.specs.Declarations.{cells_of}
 use Rattle.serial_elision.specs.States.{state_of, store_of, monoids_in, callers_of, left_at, length_in}
-use Rattle.function_steps.proofs.Places.{found}
+use Rattle.frame_steps.proofs.Places.{found}
 use Rattle.serial_elision.proofs.Soundness.{next_fits, next_within, within}
 use Rattle.serial_elision.proofs.Evaluations.{spawn_leads, call_leads}
 use Rattle.serial_elision.proofs.Elisions.{on_ok, begun_stands, enter_makes}

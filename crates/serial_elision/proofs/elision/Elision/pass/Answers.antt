@@ -3,7 +3,7 @@ use Rattle.std.specs.Prelude.{slice_index}
 use Rattle.std.proofs.lemmas.Bool.{ltb-true}
 use Rattle.text_words.specs.Declarations.{cells_of}
 use Rattle.serial_elision.specs.States.{state_of, store_of, monoids_in, callers_of, left_at}
-use Rattle.function_steps.proofs.Places.{left_behind_else}
+use Rattle.frame_steps.proofs.Places.{left_behind_else}
 use Rattle.serial_elision.proofs.Soundness.{body_sound, next_within, next_fits, part_ends, within}
 use Rattle.serial_elision.proofs.Evaluations.{let_leads, pfor_leads}
 use Rattle.serial_elision.proofs.Elisions.{moved_stands, counted_stands, line_makes, counts_makes, same_makes, if_stands, if_makes}

@@ -1,7 +1,7 @@
 use Rattle.std.proofs.Common.{◌≡◌, ◌-◌, ◌<◌, suc, refl, ap, ◌∙◌, subst, arith}
 use Rattle.text_words.specs.Declarations.{cells_of}
 use Rattle.serial_elision.specs.States.{state_of, monoids_in, are_turns, with_begun}
-use Rattle.function_steps.proofs.Places.{found}
+use Rattle.frame_steps.proofs.Places.{found}
 use Rattle.serial_elision.proofs.Elisions.{turns_over, stopped_stands, turned_stands, turn_makes, callee_known}
 use Rattle.serial_elision.proofs.elision.Elision.turn.Goals as goal
 

@@ -1,5 +1,0 @@
-use Rattle.std.proofs.Common.{rules}
-use Rattle.function_steps.proofs.activation.Activation.statement_in.Goals as goal
-
-pub returns-in-Returning : goal.returns-in-Returning
-returns-in-Returning g c = search rules

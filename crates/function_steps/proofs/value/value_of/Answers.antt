@@ -1,5 +1,0 @@
-use Rattle.std.proofs.Common.{rules}
-use Rattle.function_steps.proofs.value.value_of.Goals as goal
-
-pub returns-in-Held : goal.returns-in-Held
-returns-in-Held c = search rules
