@@ -31,10 +31,10 @@ pub(crate) fn place_value(
 fn link_value(alloc: Global, scene: &Scene<'_, '_>, link: Link) -> Result<Value, AllocError>
     ensures { IfOk result (λ value. view value ≡ link_told (setting_of scene.now) link) }
 {
-    let place = place_value(alloc, scene, link.entry)?;
     Object::new(alloc)
-        .with_text("way", way_word(link.way))?
-        .with_last("place", place)
+        .with_text("way", way_word(link.way))
+        .with_made("place", place_value(alloc, scene, link.entry))
+        .finish()
 }
 
 /// Spawns and calls on the way to an access.
@@ -71,8 +71,9 @@ pub(crate) fn access_value(
     ensures { IfOk result (λ value. view value ≡ access_told (setting_of scene.now) number side chain.now) }
 {
     Object::new(alloc)
-        .with("place", place_value(alloc, scene, number)?)?
-        .with("within", within_value(alloc, scene, chain)?)?
-        .with_text("word", side_word(side))?
-        .with_last("further", Value::from(chain.len().saturating_sub(LINKS)))
+        .with_made("place", place_value(alloc, scene, number))
+        .with_made("within", within_value(alloc, scene, chain))
+        .with_text("word", side_word(side))
+        .with("further", Value::from(chain.len().saturating_sub(LINKS)))
+        .finish()
 }

@@ -1,9 +1,8 @@
 //! Where two strands part, and what would order them.
 
-ghost use Rattle.std.specs.Prelude.{◌≡◌, IfOk};
-ghost use Rattle.serde_json.specs.Data.{put};
+ghost use Rattle.std.specs.Prelude.{◌≡◌, Some, IfOk};
 ghost use Rattle.serde_json.specs.View.{view};
-ghost use Rattle.sarif_logs.specs.Objects.{members_of};
+ghost use Rattle.sarif_logs.specs.Objects.{made, Puts};
 ghost use Rattle.race_explanations.specs.Scenes.{setting_of};
 ghost use Rattle.race_explanations.specs.Advice.{line_on};
 ghost use Rattle.race_records.specs.Sites.{site_told};
@@ -26,10 +25,10 @@ fn with_line(
     scene: &Scene<'_, '_>,
     key: &str,
     line: u32,
-) -> Result<Object, AllocError>
-    ensures { IfOk result (λ made. members_of made ≡ put key.now (site_told (setting_of scene.now).origin line) (members_of object)) }
+) -> Object
+    ensures { Puts (made object) key.now (Some (site_told (setting_of scene.now).origin line)) (made result) }
 {
-    object.with(key, line_value(alloc, scene, line)?)
+    object.with_made(key, line_value(alloc, scene, line))
 }
 
 /// The spawn where two strands part, and whither its child and its next strand come.
@@ -47,11 +46,10 @@ fn parting_value(
         return Ok(Value::Null);
     };
     let child = line_on(pair, refused, parting.by_child);
-    let object = with_line(Object::new(alloc), alloc, scene, "child", child)?;
-    with_line(object, alloc, scene, "next", onward)?.with_last(
-        "spawn",
-        place_value(alloc, scene, parting.entry)?,
-    )
+    let object = with_line(Object::new(alloc), alloc, scene, "child", child);
+    with_line(object, alloc, scene, "next", onward)
+        .with_made("spawn", place_value(alloc, scene, parting.entry))
+        .finish()
 }
 
 /// The spawn that is outstanding at one of two reads and not at the other.
@@ -69,11 +67,10 @@ fn outstanding_value(
     };
     let at = line_on(pair, refused, spawn.parallel);
     let not_at = line_on(pair, refused, spawn.ordered);
-    let object = with_line(Object::new(alloc), alloc, scene, "at", at)?;
-    with_line(object, alloc, scene, "not_at", not_at)?.with_last(
-        "spawn",
-        place_value(alloc, scene, spawn.entry)?,
-    )
+    let object = with_line(Object::new(alloc), alloc, scene, "at", at);
+    with_line(object, alloc, scene, "not_at", not_at)
+        .with_made("spawn", place_value(alloc, scene, spawn.entry))
+        .finish()
 }
 
 /// Where the next strand of the spawn goes on.

@@ -10,7 +10,7 @@ ghost use Rattle.race_pairs.specs.Digests.{IsDigest, most_of};
 ghost use Rattle.program_text.specs.Programs.{contents};
 ghost use Rattle.trace_text.specs.Traces.{contents as trace_contents};
 ghost use Rattle.serde_json.specs.View.{view};
-ghost use Rattle.sarif_logs.specs.Objects.{members_of};
+ghost use Rattle.sarif_logs.specs.Objects.{Makes};
 ghost use Rattle.race_explanations.specs.Scenes.{setting_of};
 ghost use Rattle.race_explanations.specs.Explained.{program_file, trace_setting};
 ghost use Rattle.race_explanations.specs.Extents.{most_pairs};
@@ -68,15 +68,15 @@ fn outcome_word(outcome: Outcome) -> &'static str
 }
 
 /// The part of what is told that says how it came out.
-fn begin_document(alloc: Global, summary: Summary) -> Result<Object, AllocError>
-    ensures { IfOk result (λ document. members_of document ≡ summary_members (summary_parts summary)) }
+fn begin_document(alloc: Global, summary: Summary) -> Object
+    ensures { Makes result (summary_members (summary_parts summary)) }
 {
     Object::new(alloc)
-        .with_text("outcome", outcome_word(summary.outcome))?
-        .with("pairs", size_or_null(summary.pairs))?
-        .with("refusals", Value::from(summary.refusals))?
-        .with("requests", Value::from(summary.requests))?
-        .with("traces", Value::from(summary.traces))?
+        .with_text("outcome", outcome_word(summary.outcome))
+        .with("pairs", size_or_null(summary.pairs))
+        .with("refusals", Value::from(summary.refusals))
+        .with("requests", Value::from(summary.requests))
+        .with("traces", Value::from(summary.traces))
         .with("version", Value::from(1_u8))
 }
 
@@ -93,13 +93,14 @@ pub(crate) fn document_value(
     ensures { IfOk result (λ value. view value ≡ document_told (summary_parts summary) (view memory) (map view races.items)
         (map string_bytes recorded.now) (map view untold.items) (warned_parts warned.now)) }
 {
-    // The given values go in first: fewer are left to drop where a later step fails.
-    let object = begin_document(alloc, summary)?
-        .with("memory", memory)?
-        .with("races", Value::from(races))?
-        .with("untold", Value::from(untold))?
-        .with("recorded", texts_value(alloc, recorded)?)?;
-    with_copy(object, "warnings", &warned.warnings)?.with_last("warned", Value::from(warned.count))
+    let object = begin_document(alloc, summary)
+        .with("memory", memory)
+        .with("races", Value::from(races))
+        .with("untold", Value::from(untold))
+        .with_made("recorded", texts_value(alloc, recorded));
+    with_copy(object, "warnings", &warned.warnings)
+        .with("warned", Value::from(warned.count))
+        .finish()
 }
 
 /// Adds what is told of a race in the group with this number.

@@ -2,8 +2,9 @@
 
 ghost use Rattle.std.specs.Prelude.{◌≡◌, ℕ, List, IfOk, map, string_bytes, if◌then◌else◌};
 ghost use Rattle.std.specs.Global.{Vec};
+ghost use Rattle.serde_json.specs.Data.{string};
 ghost use Rattle.serde_json.specs.View.{view};
-ghost use Rattle.sarif_logs.specs.Objects.{members_of};
+ghost use Rattle.sarif_logs.specs.Objects.{Makes};
 ghost use Rattle.race_explanations.specs.Scenes.{setting_of};
 ghost use Rattle.race_records.specs.Values.{list_told};
 ghost use Rattle.race_records.specs.Races.{rule_word, kind_word, witness_told, name_told, parts_of, race_members, race_told, case_told};
@@ -151,17 +152,23 @@ fn names_value(alloc: Global, names: &BTreeSet<Vec<u8>>) -> Result<Value, AllocE
     Ok(Value::from(values))
 }
 
-/// The part of what is told of a pair that neither its names nor its group change.
-fn begin_race(alloc: Global, race: &Race) -> Result<Object, AllocError>
-    ensures { IfOk result (λ begun. members_of begun ≡ race_members (race_parts race.now)) }
+/// What was wrong, in one word, as a value.
+fn kind_value(alloc: Global, reason: Reason) -> Result<Value, AllocError>
+    ensures { IfOk result (λ value. view value ≡ string (kind_word reason)) }
 {
-    let kind = Value::from(kind_word(alloc, race.reason)?);
-    let object = Object::new(alloc).with("kind", kind)?;
-    let object = with_copy(object, "outstanding", &race.outstanding)?;
-    let object = with_copy(object, "parting", &race.parting)?;
-    let object = with_copy(object, "refused", &race.refused)?;
-    with_copy(object, "witness", &race.witness)?
-        .with_text("rule", rule_word(race.reason))?
+    Ok(Value::from(kind_word(alloc, reason)?))
+}
+
+/// The part of what is told of a pair that neither its names nor its group change.
+fn begin_race(alloc: Global, race: &Race) -> Object
+    ensures { Makes result (race_members (race_parts race.now)) }
+{
+    let object = Object::new(alloc).with_made("kind", kind_value(alloc, race.reason));
+    let object = with_copy(object, "outstanding", &race.outstanding);
+    let object = with_copy(object, "parting", &race.parting);
+    let object = with_copy(object, "refused", &race.refused);
+    with_copy(object, "witness", &race.witness)
+        .with_text("rule", rule_word(race.reason))
         .with("spawn_line", count_or_null(race.spawn))
 }
 
@@ -187,11 +194,11 @@ pub(crate) fn race_value(
 ) -> Result<Value, AllocError>
     ensures { IfOk result (λ value. view value ≡ race_told (race_parts race.now) (map (λ (name : Vec ℕ). name.items) names.now.keys) times group is_sure) }
 {
-    let locations = names_value(alloc, names)?;
-    with_copy(begin_race(alloc, race)?, "help", help_of(race, is_sure))?
-        .with("locations", locations)?
-        .with("times", Value::from(times))?
-        .with_last("group", Value::from(group))
+    with_copy(begin_race(alloc, race), "help", help_of(race, is_sure))
+        .with_made("locations", names_value(alloc, names))
+        .with("times", Value::from(times))
+        .with("group", Value::from(group))
+        .finish()
 }
 
 /// What is told of a race in the group with this number, by whether a sync orders all of the group.

@@ -122,10 +122,9 @@ fn keep_all(
 fn untold_value(alloc: Global, file: &str, count: usize) -> Result<Value, AllocError>
     ensures { IfOk result (λ value. view value ≡ untold_told file.now count) }
 {
-    with_bytes(Object::new(alloc), alloc, "file", file.as_bytes())?.with_last(
-        "pairs",
-        Value::from(count),
-    )
+    with_bytes(Object::new(alloc), alloc, "file", file.as_bytes())
+        .with("pairs", Value::from(count))
+        .finish()
 }
 
 /// Adds a file of which not all pairs are kept, where it is one.

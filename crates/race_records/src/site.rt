@@ -1,11 +1,10 @@
 //! Where a line stands.
 
-ghost use Rattle.std.specs.Prelude.{◌≡◌, ◌↔◌, IfOk, IsTrue};
+ghost use Rattle.std.specs.Prelude.{◌≡◌, ◌↔◌, Some, IfOk, IsTrue};
 ghost use Rattle.std.specs.Option.{option_map};
 ghost use Rattle.text_words.specs.Text.{BeginsWithDigit};
-ghost use Rattle.serde_json.specs.Data.{put};
 ghost use Rattle.serde_json.specs.View.{view};
-ghost use Rattle.sarif_logs.specs.Objects.{members_of};
+ghost use Rattle.sarif_logs.specs.Objects.{made, Puts};
 ghost use Rattle.trace_notes.specs.Places.{place_parts};
 ghost use Rattle.race_explanations.specs.Scenes.{setting_of};
 ghost use Rattle.race_records.specs.Values.{text_or_null};
@@ -158,21 +157,22 @@ fn with_text_or_null(
     alloc: Global,
     key: &str,
     text: Option<&[u8]>,
-) -> Result<Object, AllocError>
-    ensures { IfOk result (λ made. members_of made ≡ put key.now (text_or_null (option_map (λ text. text.now) text.entry)) (members_of object)) }
+) -> Object
+    ensures { Puts (made object) key.now (Some (text_or_null (option_map (λ text. text.now) text.entry))) (made result) }
 {
-    object.with(key, text_or_null(alloc, text)?)
+    object.with_made(key, text_or_null(alloc, text))
 }
 
 /// A site as a value.
 fn site_value(alloc: Global, site: Site<'_>) -> Result<Value, AllocError>
     ensures { IfOk result (λ value. view value ≡ parts_told (site_parts site.entry)) }
 {
-    let object = with_text_or_null(Object::new(alloc), alloc, "code", site.code)?;
-    let object = with_text_or_null(object, alloc, "file", bytes_of(site.file))?;
-    with_text_or_null(object, alloc, "function", bytes_of(site.function))?
-        .with("column", count_or_null(site.column))?
-        .with_last("line", count_or_null(site.line))
+    let object = with_text_or_null(Object::new(alloc), alloc, "code", site.code);
+    let object = with_text_or_null(object, alloc, "file", bytes_of(site.file));
+    with_text_or_null(object, alloc, "function", bytes_of(site.function))
+        .with("column", count_or_null(site.column))
+        .with("line", count_or_null(site.line))
+        .finish()
 }
 
 /// A line of a file, as a value.

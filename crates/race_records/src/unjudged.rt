@@ -5,7 +5,7 @@ ghost use Rattle.serde_json.specs.Data.{Data};
 ghost use Rattle.text_words.specs.Text.{lines};
 ghost use Rattle.trace_text.specs.Traces.{contents as trace_contents};
 ghost use Rattle.serde_json.specs.View.{view};
-ghost use Rattle.sarif_logs.specs.Objects.{members_of};
+ghost use Rattle.sarif_logs.specs.Objects.{Makes};
 ghost use Rattle.fault_lists.specs.FaultLists.{HasFault};
 ghost use Rattle.race_records.specs.Values.{IsTextOf};
 ghost use Rattle.race_records.specs.Forms.{in_form};
@@ -48,12 +48,12 @@ fn quote_line(
     source: &Source<'_, Global>,
     line: u32,
     rendered: &[u8],
-) -> Result<Object, AllocError>
-    ensures { IfOk result (λ quoted. members_of quoted ≡ line_members file.now source.now line rendered.now) }
+) -> Object
+    ensures { Makes result (line_members file.now source.now line rendered.now) }
 {
-    let object = with_bytes(Object::new(alloc), alloc, "code", source.line(line))?;
-    let object = with_bytes(object, alloc, "file", file.as_bytes())?;
-    with_bytes(object, alloc, "rendered", rendered)?.with("line", Value::from(line))
+    let object = with_bytes(Object::new(alloc), alloc, "code", source.line(line));
+    let object = with_bytes(object, alloc, "file", file.as_bytes());
+    with_bytes(object, alloc, "rendered", rendered).with("line", Value::from(line))
 }
 
 /// A fault, with what a person is told of it.
@@ -66,8 +66,9 @@ fn rendered_value(
 ) -> Result<Value, AllocError>
     ensures { IfOk result (λ value. view value ≡ fault_told file.now source.now fault rendered.now) }
 {
-    let cause = Value::try_from_str(alloc, cause_word(fault.why))?;
-    quote_line(alloc, file, source, fault.line, rendered)?.with_last("cause", cause)
+    quote_line(alloc, file, source, fault.line, rendered)
+        .with_text("cause", cause_word(fault.why))
+        .finish()
 }
 
 /// What is told of a fault.
@@ -111,10 +112,11 @@ fn faulty_value(alloc: Global, faults: Vec<Value>, is_more: bool) -> Result<Valu
     ensures { IfOk result (λ value. view value ≡ faulty_told (map view faults.items) is_more) }
 {
     Object::new(alloc)
-        .with("faults", Value::from(faults))?
-        .with("more", Value::from(is_more))?
-        .with_text("outcome", "faulty")?
-        .with_last("version", Value::from(1_u8))
+        .with("faults", Value::from(faults))
+        .with("more", Value::from(is_more))
+        .with_text("outcome", "faulty")
+        .with("version", Value::from(1_u8))
+        .finish()
 }
 
 /// Tells in a form of the text of a program or a trace that has this fault: of it and of each fault behind it that
@@ -160,13 +162,14 @@ fn request_value(
     ensures { IfOk result (λ value. view value ≡ request_told file.now source.now line number why rendered.now) }
 {
     let at = at_of(line);
-    quote_line(alloc, file, source, at, rendered)?
-        .with_text("help", help_words(why))?
-        .with_text("message", title_words(why))?
-        .with_text("outcome", "illegal")?
-        .with("request", Value::from(number))?
-        .with("strand", Value::from(strand_of(line)))?
-        .with_last("version", Value::from(1_u8))
+    quote_line(alloc, file, source, at, rendered)
+        .with_text("help", help_words(why))
+        .with_text("message", title_words(why))
+        .with_text("outcome", "illegal")
+        .with("request", Value::from(number))
+        .with("strand", Value::from(strand_of(line)))
+        .with("version", Value::from(1_u8))
+        .finish()
 }
 
 /// An illegal request, as one value.

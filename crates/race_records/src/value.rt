@@ -1,10 +1,9 @@
 //! Texts, numbers and lists as values.
 
-ghost use Rattle.std.specs.Prelude.{◌≡◌, IfOk, map, string_bytes};
+ghost use Rattle.std.specs.Prelude.{◌≡◌, Some, IfOk, map, string_bytes};
 ghost use Rattle.std.specs.Option.{option_map};
-ghost use Rattle.serde_json.specs.Data.{put};
 ghost use Rattle.serde_json.specs.View.{view};
-ghost use Rattle.sarif_logs.specs.Objects.{members_of};
+ghost use Rattle.sarif_logs.specs.Objects.{made, Puts};
 ghost use Rattle.race_records.specs.Values.{text_told, text_or_null, number_or_null, list_told, IsTextOf};
 
 use sarif_logs::Object;
@@ -34,17 +33,17 @@ pub(crate) fn with_bytes(
     alloc: Global,
     key: &str,
     text: &[u8],
-) -> Result<Object, AllocError>
-    ensures { IfOk result (λ made. members_of made ≡ put key.now (text_told text.now) (members_of object)) }
+) -> Object
+    ensures { Puts (made object) key.now (Some (text_told text.now)) (made result) }
 {
-    object.with(key, text_value(alloc, text)?)
+    object.with_made(key, text_value(alloc, text))
 }
 
 /// An object with the copy of a value as a further member.
-pub(crate) fn with_copy(object: Object, key: &str, value: &Value) -> Result<Object, AllocError>
-    ensures { IfOk result (λ made. members_of made ≡ put key.now (view value.now) (members_of object)) }
+pub(crate) fn with_copy(object: Object, key: &str, value: &Value) -> Object
+    ensures { Puts (made object) key.now (Some (view value.now)) (made result) }
 {
-    object.with(key, value.clone()?)
+    object.with_made(key, value.clone())
 }
 
 /// A number, where there is one.

@@ -74,11 +74,12 @@ fn warning_value(
 ) -> Result<Value, AllocError>
     ensures { IfOk result (λ value. view value ≡ warning_told file.now source.now (contents program.now) warning) }
 {
-    let place = file_line_value(alloc, file, source, line_of_warning(warning))?;
+    let place = file_line_value(alloc, file, source, line_of_warning(warning));
     Object::new(alloc)
-        .with("place", place)?
-        .with_text("rule", rule_word(warning))?
-        .with_last("message", message_value(alloc, program, warning)?)
+        .with_made("place", place)
+        .with_text("rule", rule_word(warning))
+        .with_made("message", message_value(alloc, program, warning))
+        .finish()
 }
 
 /// What is told of warnings.

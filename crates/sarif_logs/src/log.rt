@@ -110,10 +110,10 @@ fn cut_message(alloc: Global, requests: u64) -> Result<Value, AllocError>
 fn cut_note(alloc: Global, document: &Value) -> Result<Value, AllocError>
     ensures { IfOk result (λ value. view value ≡ cut_note (view document.now)) }
 {
-    let message = cut_message(alloc, count_at(document, "requests"))?;
     Object::new(alloc)
-        .with_text("level", "warning")?
-        .with_last("message", message)
+        .with_text("level", "warning")
+        .with_made("message", cut_message(alloc, count_at(document, "requests")))
+        .finish()
 }
 
 /// What is noted of the run itself: that the limit ended it.
@@ -130,10 +130,10 @@ fn notes_value(alloc: Global, document: &Value) -> Result<Value, AllocError>
 fn invocation_value(alloc: Global, document: &Value) -> Result<Value, AllocError>
     ensures { IfOk result (λ value. view value ≡ invocation_told (view document.now)) }
 {
-    let notes = notes_value(alloc, document)?;
     Object::new(alloc)
-        .with("executionSuccessful", Value::from(is_whole(document)))?
-        .with_last("toolExecutionNotifications", notes)
+        .with("executionSuccessful", Value::from(is_whole(document)))
+        .with_made("toolExecutionNotifications", notes_value(alloc, document))
+        .finish()
 }
 
 /// Adds the members of a record that have these keys.
@@ -166,23 +166,25 @@ fn properties_value(alloc: Global, document: &Value) -> Result<Value, AllocError
 fn tool_value(alloc: Global) -> Result<Value, AllocError>
     ensures { IfOk result (λ value. view value ≡ tool_told) }
 {
-    let rules = rules_value(alloc)?;
     let driver = Object::new(alloc)
-        .with_text("name", "cilkcheck")?
-        .with_last("rules", rules)?;
-    Object::new(alloc).with_last("driver", driver)
+        .with_text("name", "cilkcheck")
+        .with_made("rules", rules_value(alloc))
+        .finish();
+    Object::new(alloc).with_made("driver", driver).finish()
 }
 
 /// The one run of a log.
 fn run_value(alloc: Global, document: &Value) -> Result<Value, AllocError>
     ensures { IfOk result (λ value. view value ≡ run_told (view document.now)) }
 {
-    let invocations = list_of_one(alloc, invocation_value(alloc, document)?)?;
+    let results = result_values(alloc, document)?;
+    let invocation = invocation_value(alloc, document)?;
     Object::new(alloc)
-        .with("invocations", invocations)?
-        .with("properties", properties_value(alloc, document)?)?
-        .with("results", Value::Array(result_values(alloc, document)?))?
-        .with_last("tool", tool_value(alloc)?)
+        .with("results", Value::Array(results))
+        .with_made("invocations", list_of_one(alloc, invocation))
+        .with_made("properties", properties_value(alloc, document))
+        .with_made("tool", tool_value(alloc))
+        .finish()
 }
 
 /// The log in SARIF 2.1.0 of a record, which is a JSON object of the shape that `explain --format json` prints: a result for each of its
@@ -190,9 +192,10 @@ fn run_value(alloc: Global, document: &Value) -> Result<Value, AllocError>
 pub fn log_value(alloc: Global, document: &Value) -> Result<Value, AllocError>
     ensures { IfOk result (λ log. view log ≡ log_told (view document.now)) }
 {
-    let runs = list_of_one(alloc, run_value(alloc, document)?)?;
+    let run = run_value(alloc, document)?;
     Object::new(alloc)
-        .with_text("$schema", "https://json.schemastore.org/sarif-2.1.0.json")?
-        .with_text("version", "2.1.0")?
-        .with_last("runs", runs)
+        .with_text("$schema", "https://json.schemastore.org/sarif-2.1.0.json")
+        .with_text("version", "2.1.0")
+        .with_made("runs", list_of_one(alloc, run))
+        .finish()
 }

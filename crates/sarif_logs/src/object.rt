@@ -1,12 +1,11 @@
 //! Objects made member by member, and lists of one item.
 //!
-//! An [`Object`] goes from call to call by value, so each member is a step of its own in a proof. `json!` makes all members in one function,
-//! and each of its steps is proved with the whole map alive.
+//! An [`Object`] goes from call to call by value. That there was no memory for a member is noted, and told once, at the end.
 
-ghost use Rattle.std.specs.Prelude.{◌≡◌, IfOk};
-ghost use Rattle.serde_json.specs.Data.{string, array, object, item, no_items, no_members, put};
+ghost use Rattle.std.specs.Prelude.{◌≡◌, Some, IfOk};
+ghost use Rattle.serde_json.specs.Data.{string, array, item, no_items, no_members};
 ghost use Rattle.serde_json.specs.View.{view};
-ghost use Rattle.sarif_logs.specs.Objects.{members_of};
+ghost use Rattle.sarif_logs.specs.Objects.{made, told_view, Puts, Ends};
 
 use serde_json::{Map, Value, put};
 use std::alloc::{AllocError, Global};
@@ -16,43 +15,67 @@ use std::alloc::{AllocError, Global};
 pub struct Object {
     alloc: Global,
     members: Map<String, Value>,
+    is_short: bool,
 }
 
 impl Object {
     /// An object without members.
     pub fn new(alloc: Global) -> Object
-        ensures { members_of result ≡ no_members }
+        ensures { made result ≡ Some no_members }
     {
         Object {
             alloc,
             members: Map::new(alloc),
+            is_short: false,
         }
     }
 
-    /// The object with a further member. Errors where there is no memory.
-    pub fn with(self, key: &str, value: Value) -> Result<Object, AllocError>
-        ensures { IfOk result (λ made. members_of made ≡ put key.now (view value) (members_of self)) }
+    /// The object with a further member.
+    pub fn with(self, key: &str, value: Value) -> Object
+        ensures { Puts (made self) key.now (Some (view value)) (made result) }
     {
-        let Object { alloc, mut members } = self;
-        put(&mut members, alloc, key, value)?;
-        Ok(Object { alloc, members })
+        let Object {
+            alloc,
+            mut members,
+            is_short,
+        } = self;
+        let is_put = put(&mut members, alloc, key, value).is_ok();
+        Object {
+            alloc,
+            members,
+            is_short: is_short || !is_put,
+        }
     }
 
-    /// The object with a text as a further member. Errors where there is no memory.
-    pub fn with_text(self, key: &str, text: &str) -> Result<Object, AllocError>
-        ensures { IfOk result (λ made. members_of made ≡ put key.now (string text.now) (members_of self)) }
+    /// The object with a further member, where there was memory for its value.
+    pub fn with_made(self, key: &str, value: Result<Value, AllocError>) -> Object
+        ensures { Puts (made self) key.now (told_view value) (made result) }
     {
-        let value = Value::try_from_str(self.alloc, text)?;
-        self.with(key, value)
+        match value {
+            Ok(value) => self.with(key, value),
+            Err(AllocError) => Object {
+                is_short: true,
+                ..self
+            },
+        }
     }
 
-    /// The object with its last member, as a value. Errors where there is no memory.
-    pub fn with_last(self, key: &str, value: Value) -> Result<Value, AllocError>
-        ensures { IfOk result (λ made. view made ≡ object (put key.now (view value) (members_of self))) }
+    /// The object with a text as a further member.
+    pub fn with_text(self, key: &str, text: &str) -> Object
+        ensures { Puts (made self) key.now (Some (string text.now)) (made result) }
     {
-        let Object { alloc, mut members } = self;
-        put(&mut members, alloc, key, value)?;
-        Ok(Value::Object(members))
+        let value = Value::try_from_str(self.alloc, text);
+        self.with_made(key, value)
+    }
+
+    /// The object as a value. Errors where there was no memory for a member.
+    pub fn finish(self) -> Result<Value, AllocError>
+        ensures { IfOk result (λ value. Ends self (view value)) }
+    {
+        if self.is_short {
+            return Err(AllocError);
+        }
+        Ok(Value::Object(self.members))
     }
 }
 

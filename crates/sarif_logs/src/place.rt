@@ -6,7 +6,7 @@ ghost use Rattle.serde_json.specs.Data.{array, item, no_items, member, no_member
 ghost use Rattle.serde_json.specs.View.{view};
 ghost use Rattle.sarif_logs.specs.Places.{place_of, place_at, nowhere, scheme, uri, text_told, count_told, region_told, artifact_told, physical_told, function_told, functions_told};
 ghost use Rattle.sarif_logs.specs.Places.{column_words, line_words, place_words, in_function, location_told, related_told, noted_words};
-ghost use Rattle.sarif_logs.specs.Objects.{members_of};
+ghost use Rattle.sarif_logs.specs.Objects.{Makes};
 ghost use Rattle.sarif_logs.specs.PlaceViews.{place_parts};
 
 use crate::message::push_three;
@@ -90,18 +90,7 @@ fn uri(alloc: Global, name: &str) -> Result<String, AllocError>
 pub(crate) fn text_value(alloc: Global, text: &str) -> Result<Value, AllocError>
     ensures { IfOk result (λ value. view value ≡ text_told text.now) }
 {
-    let text = Value::try_from_str(alloc, text)?;
-    Object::new(alloc).with_last("text", text)
-}
-
-/// The part of a region that says from where on it is.
-fn begin_region(alloc: Global, line: u64, column: u64) -> Result<Object, AllocError>
-    ensures { IfOk result (λ region. members_of region ≡
-        member (codes "startColumn") (count_told column) (member (codes "startLine") (count_told line) no_members)) }
-{
-    Object::new(alloc)
-        .with("startLine", Value::from(line))?
-        .with("startColumn", Value::from(column))
+    Object::new(alloc).with_text("text", text).finish()
 }
 
 /// The part of a file: a line, from a column on where it is known.
@@ -113,18 +102,15 @@ fn region_value(
 ) -> Result<Value, AllocError>
     ensures { IfOk result (λ value. view value ≡ region_told line column (option_map (λ code. code.now) code.entry)) }
 {
+    let region = Object::new(alloc).with("startLine", Value::from(line));
     match (code, column) {
-        (Some(code), Some(column)) => begin_region(alloc, line, column)?.with_last(
-            "snippet",
-            text_value(alloc, code)?,
-        ),
-        (Some(code), None) => Object::new(alloc)
-            .with("startLine", Value::from(line))?
-            .with_last("snippet", text_value(alloc, code)?),
-        (None, Some(column)) => Object::new(alloc)
-            .with("startLine", Value::from(line))?
-            .with_last("startColumn", Value::from(column)),
-        (None, None) => Object::new(alloc).with_last("startLine", Value::from(line)),
+        (Some(code), Some(column)) => region
+            .with("startColumn", Value::from(column))
+            .with_made("snippet", text_value(alloc, code))
+            .finish(),
+        (Some(code), None) => region.with_made("snippet", text_value(alloc, code)).finish(),
+        (None, Some(column)) => region.with("startColumn", Value::from(column)).finish(),
+        (None, None) => region.finish(),
     }
 }
 
@@ -132,23 +118,21 @@ fn region_value(
 fn artifact_value(alloc: Global, file: &str) -> Result<Value, AllocError>
     ensures { IfOk result (λ value. view value ≡ artifact_told file.now) }
 {
-    let uri = Value::from(uri(alloc, file)?);
-    Object::new(alloc).with_last("uri", uri)
+    let uri = uri(alloc, file)?;
+    Object::new(alloc).with("uri", Value::from(uri)).finish()
 }
 
 /// A file and the part of it, where its line is known.
 fn physical_value(alloc: Global, file: &str, place: &Place<'_>) -> Result<Value, AllocError>
     ensures { IfOk result (λ value. view value ≡ physical_told file.now (place_parts place.now)) }
 {
-    let artifact = artifact_value(alloc, file)?;
+    let physical = Object::new(alloc).with_made("artifactLocation", artifact_value(alloc, file));
     match place.line {
-        Some(line) => Object::new(alloc)
-            .with("artifactLocation", artifact)?
-            .with_last(
-                "region",
-                region_value(alloc, line, place.column, place.code)?,
-            ),
-        None => Object::new(alloc).with_last("artifactLocation", artifact),
+        Some(line) => {
+            let region = region_value(alloc, line, place.column, place.code);
+            physical.with_made("region", region).finish()
+        }
+        None => physical.finish(),
     }
 }
 
@@ -156,10 +140,10 @@ fn physical_value(alloc: Global, file: &str, place: &Place<'_>) -> Result<Value,
 fn function_value(alloc: Global, function: &str) -> Result<Value, AllocError>
     ensures { IfOk result (λ value. view value ≡ function_told function.now) }
 {
-    let name = Value::try_from_str(alloc, function)?;
     Object::new(alloc)
-        .with_text("kind", "function")?
-        .with_last("name", name)
+        .with_text("kind", "function")
+        .with_text("name", function)
+        .finish()
 }
 
 /// The function of a place, where it is known.
@@ -243,23 +227,24 @@ fn place_message(alloc: Global, place: &Place<'_>) -> Result<Value, AllocError>
 }
 
 /// The part of a location that related ones have too.
-fn begin_location(alloc: Global, place: &Place<'_>) -> Result<Object, AllocError>
-    ensures { IfOk result (λ location. members_of location ≡ member (codes "logicalLocations") (functions_told (place_parts place.now).function) no_members) }
+fn begin_location(alloc: Global, place: &Place<'_>) -> Object
+    ensures { Makes result (member (codes "logicalLocations") (functions_told (place_parts place.now).function) no_members) }
 {
-    let functions = functions_value(alloc, place.function)?;
-    Object::new(alloc).with("logicalLocations", functions)
+    let functions = functions_value(alloc, place.function);
+    Object::new(alloc).with_made("logicalLocations", functions)
 }
 
 /// A place as the location of a result. One without a file has no physical location, and a message in its place.
 fn location_value(alloc: Global, place: &Place<'_>) -> Result<Value, AllocError>
     ensures { IfOk result (λ value. view value ≡ location_told (place_parts place.now)) }
 {
+    let location = begin_location(alloc, place);
     match place.file {
-        Some(file) => begin_location(alloc, place)?.with_last(
-            "physicalLocation",
-            physical_value(alloc, file, place)?,
-        ),
-        None => { begin_location(alloc, place)?.with_last("message", place_message(alloc, place)?) }
+        Some(file) => {
+            let physical = physical_value(alloc, file, place);
+            location.with_made("physicalLocation", physical).finish()
+        }
+        None => location.with_made("message", place_message(alloc, place)).finish(),
     }
 }
 
@@ -279,13 +264,14 @@ pub(crate) fn related_value(
 ) -> Result<Value, AllocError>
     ensures { IfOk result (λ value. view value ≡ related_told number words.now (place_parts place.now)) }
 {
+    let location = begin_location(alloc, place).with("id", Value::from(number));
     match place.file {
-        Some(file) => begin_location(alloc, place)?
-            .with("id", Value::from(number))?
-            .with("message", text_value(alloc, words)?)?
-            .with_last("physicalLocation", physical_value(alloc, file, place)?),
-        None => begin_location(alloc, place)?
-            .with("id", Value::from(number))?
-            .with_last("message", noted_message(alloc, words, place)?),
+        Some(file) => location
+            .with_made("message", text_value(alloc, words))
+            .with_made("physicalLocation", physical_value(alloc, file, place))
+            .finish(),
+        None => location
+            .with_made("message", noted_message(alloc, words, place))
+            .finish(),
     }
 }

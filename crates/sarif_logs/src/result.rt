@@ -30,16 +30,16 @@ fn result_value(
 ) -> Result<Value, AllocError>
     ensures { IfOk result (λ value. view value ≡ result_told rule (view message) (place_parts place.now) (map view related.items) (view properties) times) }
 {
-    // The given values go in first: fewer are left to drop where a later step fails.
     Object::new(alloc)
-        .with("message", message)?
-        .with("properties", properties)?
-        .with("relatedLocations", Value::Array(related))?
-        .with("locations", locations_value(alloc, place)?)?
-        .with("occurrenceCount", Value::from(times))?
-        .with_text("level", rule.level())?
-        .with_text("ruleId", rule.id())?
-        .with_last("ruleIndex", Value::from(rule.number()))
+        .with("message", message)
+        .with("properties", properties)
+        .with("relatedLocations", Value::Array(related))
+        .with_made("locations", locations_value(alloc, place))
+        .with("occurrenceCount", Value::from(times))
+        .with_text("level", rule.level())
+        .with_text("ruleId", rule.id())
+        .with("ruleIndex", Value::from(rule.number()))
+        .finish()
 }
 
 /// What a race has that no other member of a result tells.
@@ -47,18 +47,19 @@ fn race_properties(alloc: Global, race: &Value) -> Result<Value, AllocError>
     ensures { IfOk result (λ value. view value ≡ race_properties (view race.now)) }
 {
     Object::new(alloc)
-        .with("group", Value::from(count_at(race, "group")))?
-        .with_text("kind", words_at(race, "kind"))?
-        .with("locations", member_at(alloc, race, "locations")?)?
+        .with("group", Value::from(count_at(race, "group")))
+        .with_text("kind", words_at(race, "kind"))
+        .with_made("locations", member_at(alloc, race, "locations"))
         .with(
             "refusedFurther",
             Value::from(access_at(race, "refused").further),
-        )?
-        .with("spawnLine", member_at(alloc, race, "spawn_line")?)?
-        .with_last(
+        )
+        .with_made("spawnLine", member_at(alloc, race, "spawn_line"))
+        .with(
             "witnessFurther",
             Value::from(access_at(race, "witness").further),
         )
+        .finish()
 }
 
 /// The result of a race.
@@ -142,10 +143,11 @@ fn quoted(alloc: Global, rendered: &str) -> Result<String, AllocError>
 fn told_twice(alloc: Global, words: &str, rendered: &str) -> Result<Value, AllocError>
     ensures { IfOk result (λ value. view value ≡ told_twice words.now rendered.now) }
 {
-    let markdown = Value::from(quoted(alloc, rendered)?);
+    let markdown = quoted(alloc, rendered)?;
     Object::new(alloc)
-        .with_text("text", words)?
-        .with_last("markdown", markdown)
+        .with_text("text", words)
+        .with("markdown", Value::from(markdown))
+        .finish()
 }
 
 /// The message of a fault: its title as a sentence, and as a person is told it.
@@ -160,8 +162,9 @@ fn fault_message(alloc: Global, rendered: &str) -> Result<Value, AllocError>
 fn fault_properties(alloc: Global, fault: &Value) -> Result<Value, AllocError>
     ensures { IfOk result (λ value. view value ≡ fault_properties (view fault.now)) }
 {
-    let cause = Value::try_from_str(alloc, words_at(fault, "cause"))?;
-    Object::new(alloc).with_last("cause", cause)
+    Object::new(alloc)
+        .with_text("cause", words_at(fault, "cause"))
+        .finish()
 }
 
 /// The result of a fault of a text.
@@ -196,8 +199,9 @@ fn illegal_properties(alloc: Global, request: &Value) -> Result<Value, AllocErro
     ensures { IfOk result (λ value. view value ≡ illegal_properties (view request.now)) }
 {
     Object::new(alloc)
-        .with("request", Value::from(count_at(request, "request")))?
-        .with_last("strand", Value::from(count_at(request, "strand")))
+        .with("request", Value::from(count_at(request, "request")))
+        .with("strand", Value::from(count_at(request, "strand")))
+        .finish()
 }
 
 /// The result of an illegal request.

@@ -215,8 +215,7 @@ fn first_named(rules: &[Rule], id: &str) -> Option<Rule>
 fn level_value(alloc: Global, rule: Rule) -> Result<Value, AllocError>
     ensures { IfOk result (λ value. view value ≡ level_told rule) }
 {
-    let level = Value::try_from_str(alloc, rule.level())?;
-    Object::new(alloc).with_last("level", level)
+    Object::new(alloc).with_text("level", rule.level()).finish()
 }
 
 /// A rule as the log describes it.
@@ -224,12 +223,13 @@ fn rule_value(alloc: Global, rule: Rule) -> Result<Value, AllocError>
     ensures { IfOk result (λ value. view value ≡ rule_told rule) }
 {
     Object::new(alloc)
-        .with("defaultConfiguration", level_value(alloc, rule)?)?
-        .with("fullDescription", text_value(alloc, rule.description())?)?
-        .with("help", text_value(alloc, rule.help())?)?
-        .with_text("id", rule.id())?
-        .with_text("name", rule.name())?
-        .with_last("shortDescription", text_value(alloc, rule.summary())?)
+        .with_made("defaultConfiguration", level_value(alloc, rule))
+        .with_made("fullDescription", text_value(alloc, rule.description()))
+        .with_made("help", text_value(alloc, rule.help()))
+        .with_text("id", rule.id())
+        .with_text("name", rule.name())
+        .with_made("shortDescription", text_value(alloc, rule.summary()))
+        .finish()
 }
 
 /// Rules as the log describes them.
