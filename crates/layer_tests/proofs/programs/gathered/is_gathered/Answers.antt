@@ -1,5 +1,5 @@
 use Rattle.race_report.proofs.JudgedRuns.{judged_meets}
-use Rattle.run_tests.proofs.programs.gathered.is_gathered.Goals as goal
+use Rattle.layer_tests.proofs.programs.gathered.is_gathered.Goals as goal
 
 pub is_reported-reported-requires-clause-entries : goal.is_reported-reported-requires-clause-entries
 is_reported-reported-requires-clause-entries g c = judged_meets _ c.in_ok-whole.whole.entries.items c.in_ok-whole.ensures.run.0.run.judged

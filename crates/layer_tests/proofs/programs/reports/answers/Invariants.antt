@@ -1,5 +1,5 @@
 use Rattle.std.proofs.Common.{◌≡◌}
-use Rattle.run_tests.proofs.programs.reports.answers.Given as goal
+use Rattle.layer_tests.proofs.programs.reports.answers.Given as goal
 
 -- the gate keeps its shape
 abbrev pub invariant-loop-request : goal.invariant-loop-request

@@ -7,7 +7,7 @@ use Rattle.model_histories.specs.Extensions.{IsCleanAnswer}
 use Rattle.race_report.specs.Conditions.{AreTellable}
 use Rattle.race_report.proofs.Reversed.{all_reversed, all_reverses}
 use Rattle.race_report.proofs.JudgedRuns.{judged_meets}
-use Rattle.run_tests.proofs.programs.reports.whole_of.Goals as goal
+use Rattle.layer_tests.proofs.programs.reports.whole_of.Goals as goal
 
 meets : (shape other : Shape) (history : Entries) (told : List Entry) → shape ≡ other → reverse told ≡ history → IsJudged shape history → AreTellable other told
 meets shape other history told same is judged =

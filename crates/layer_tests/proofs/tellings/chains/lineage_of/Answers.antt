@@ -3,7 +3,7 @@ use Rattle.model_histories.specs.declared.answer.Entry.{Entry}
 use Rattle.model_histories.specs.Legal.{IsLegal}
 use Rattle.race_gate.proofs.Races.{legal-part}
 use Rattle.race_pairs.specs.Lineages.{IsLineage}
-use Rattle.run_tests.proofs.tellings.chains.lineage_of.Goals as goal
+use Rattle.layer_tests.proofs.tellings.chains.lineage_of.Goals as goal
 
 pub of-requires-clause-legal : goal.of-requires-clause-legal
 of-requires-clause-legal c =

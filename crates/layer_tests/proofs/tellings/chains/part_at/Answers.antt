@@ -5,7 +5,7 @@ use Rattle.model_histories.specs.Entries.{control_part}
 use Rattle.model_histories.specs.Legal.{IsLegal}
 use Rattle.race_pairs.proofs.Numbers.{no_entry}
 use Rattle.race_pairs.proofs.Asked.{told_begun}
-use Rattle.run_tests.proofs.tellings.chains.part_at.Goals as goal
+use Rattle.layer_tests.proofs.tellings.chains.part_at.Goals as goal
 
 pub parting-parting-requires : goal.parting-parting-requires
 parting-parting-requires c =

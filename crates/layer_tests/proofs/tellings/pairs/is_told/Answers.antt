@@ -6,7 +6,7 @@ use Rattle.std.proofs.lemmas.Option.{slice_get_within, unwrap_or-slice_get}
 use Rattle.race_pairs.specs.declared.race.Race.{Race}
 use Rattle.race_pairs.specs.Kept.{IsRace}
 use Rattle.race_pairs.proofs.Digesting.{races_now}
-use Rattle.run_tests.proofs.tellings.pairs.is_told.Goals as goal
+use Rattle.layer_tests.proofs.tellings.pairs.is_told.Goals as goal
 
 all_at : (P : Race → Type 0) (races : List Race) (place : ℕ) (race : Race) → All P races → slice_get races place ≡ Some race → P race
 all_at P races place race all at =
