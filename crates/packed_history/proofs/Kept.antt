@@ -1,9 +1,11 @@
 -- What is put at the end of a list is kept, with what it has beside.
 use Rattle.std.proofs.Common.{option_map, ◌⊎◌, inl, inr, ◌≡◌, ℕ, true, false, Bool, List, [], ◌∷◌, ◌++◌, ◌<◌, Option, None, Some, length, get_or}
-use Rattle.std.proofs.Common.{slice_get, refl, sym, ap, subst, ◌∙◌, append_assoc, arith}
+use Rattle.std.proofs.Common.{slice_get, if◌then◌else◌, IsTrue, refl, sym, ap, subst, ◌∙◌, append_assoc, arith}
+use Rattle.std.proofs.lemmas.Bool.{false≢true}
 use Rattle.std.proofs.lemmas.List.{append-nil, length-map, map-append}
-use Rattle.std.proofs.lemmas.Option.{slice_get-map, slice_get_read}
+use Rattle.std.proofs.lemmas.Option.{get_or_from_slice_get, slice_get-get_or, slice_get-map, slice_get_read}
 use Rattle.std.proofs.Math.Seq.{get_or-append_seam}
+use Rattle.model_histories.specs.declared.answer.Entry.{Entry}
 use Rattle.model_histories.specs.declared.reply.Receipt.{Receipt}
 use Rattle.packed_history.specs.declared.packed.Packed.{Packed}
 use Rattle.packed_history.specs.declared.refusal.Refusal.{Refusal}
@@ -13,6 +15,7 @@ use Rattle.packed_history.specs.Shorts.{Open, Spawn, Call, Pass, Join, Wait, Res
 use Rattle.packed_history.specs.Shorts.{Refused, Long}
 use Rattle.packed_history.specs.Shorts.{Deed, index_of, is_long, is_refused, is_short, plain}
 use Rattle.packed_history.proofs.Packing.{refused-again}
+use Rattle.packed_history.specs.Entries.{entry_of, entries_of}
 use Rattle.packed_history.specs.Lists.{AreKept, receipt_in, receipt_of, receipts_of}
 
 -- the packed receipt is this one, beside the longer lists and beside all that begin with them
@@ -270,3 +273,95 @@ listed_same longs others refusals denials shorts packeds at place one another he
     ∙ ap (option_map (receipt_in longs refusals)) here
     ∙ ap (λ (receipt : Receipt). Some receipt) same
     ∙ sym (slice_get-map (receipt_in others denials) packeds place ∙ ap (option_map (receipt_in others denials)) there)
+
+-- the receipt that the packed one at a place stands for
+listed_at : (longs : List Receipt) (refusals : List Refusal) (shorts : List Packed) (at : ℕ) (one : Packed) →
+    at < length (receipts_of longs refusals shorts) → one ≡ get_or shorts at one →
+    slice_get (receipts_of longs refusals shorts) at ≡ Some (receipt_in longs refusals one)
+listed_at longs refusals shorts at one within is =
+    slice_get-map (receipt_in longs refusals) shorts at
+    ∙ ap (option_map (receipt_in longs refusals)) (stands_at longs refusals shorts at one within is)
+
+short_in : {A : Type 0} (short long : Bool) (plainly beside denied : A) → short ≡ true →
+    (if short then plainly else if long then beside else denied) ≡ plainly
+short_in true long plainly beside denied is = refl
+short_in false long plainly beside denied is = absurd (false≢true is)
+
+long_in : {A : Type 0} (short long : Bool) (plainly beside denied : A) → short ≡ false → long ≡ true →
+    (if short then plainly else if long then beside else denied) ≡ beside
+long_in false true plainly beside denied not_short is = refl
+long_in false false plainly beside denied not_short is = absurd (false≢true is)
+long_in true long plainly beside denied not_short is = absurd (false≢true (sym not_short))
+
+refused_in : {A : Type 0} (short long : Bool) (plainly beside denied : A) → short ≡ false → long ≡ false →
+    (if short then plainly else if long then beside else denied) ≡ denied
+refused_in false false plainly beside denied not_short not_long = refl
+refused_in false true plainly beside denied not_short not_long = absurd (false≢true (sym not_long))
+refused_in true long plainly beside denied not_short not_long = absurd (false≢true (sym not_short))
+
+-- what was read of a packed receipt, by its form, stands at its place
+pub read_short : (longs : List Receipt) (refusals : List Refusal) (shorts : List Packed) (at : ℕ) (one : Packed) (receipt : Receipt) →
+    at < length (receipts_of longs refusals shorts) → one ≡ get_or shorts at one → is_short (unpacked one).deed ≡ true →
+    receipt ≡ plain (unpacked one) → slice_get (receipts_of longs refusals shorts) at ≡ Some receipt
+read_short longs refusals shorts at one receipt within is short told =
+    listed_at longs refusals shorts at one within is
+    ∙ ap (λ (r : Receipt). Some r) (short_in (is_short (unpacked one).deed) (is_long (unpacked one).deed) _ _ _ short ∙ sym told)
+
+pub read_long : (longs : List Receipt) (refusals : List Refusal) (shorts : List Packed) (at : ℕ) (one : Packed) (receipt : Receipt) →
+    at < length (receipts_of longs refusals shorts) → one ≡ get_or shorts at one → is_short (unpacked one).deed ≡ false →
+    is_long (unpacked one).deed ≡ true → receipt ≡ get_or longs (index_of (unpacked one).deed) (plain (unpacked one)) →
+    slice_get (receipts_of longs refusals shorts) at ≡ Some receipt
+read_long longs refusals shorts at one receipt within is not_short long told =
+    listed_at longs refusals shorts at one within is
+    ∙ ap (λ (r : Receipt). Some r) (long_in (is_short (unpacked one).deed) (is_long (unpacked one).deed) _ _ _ not_short long ∙ sym told)
+
+pub read_refused : (longs : List Receipt) (refusals : List Refusal) (shorts : List Packed) (at : ℕ) (one : Packed) (receipt : Receipt) →
+    at < length (receipts_of longs refusals shorts) → one ≡ get_or shorts at one → is_short (unpacked one).deed ≡ false →
+    is_long (unpacked one).deed ≡ false → receipt ≡ refused (slice_get refusals (index_of (unpacked one).deed)) (unpacked one) →
+    slice_get (receipts_of longs refusals shorts) at ≡ Some receipt
+read_refused longs refusals shorts at one receipt within is not_short not_long told =
+    listed_at longs refusals shorts at one within is
+    ∙ ap (λ (r : Receipt). Some r) (refused_in (is_short (unpacked one).deed) (is_long (unpacked one).deed) _ _ _ not_short not_long ∙ sym told)
+
+same_packed : (one again : Packed) → Some one ≡ Some again → one ≡ again
+same_packed one again same = cc
+
+-- two reads of one place
+pub read_twice : (longs : List Receipt) (refusals : List Refusal) (shorts : List Packed) (at : ℕ) (one again : Packed) →
+    at < length (receipts_of longs refusals shorts) → one ≡ get_or shorts at one → again ≡ get_or shorts at again → one ≡ again
+read_twice longs refusals shorts at one again within is is_again =
+    same_packed one again (sym (stands_at longs refusals shorts at one within is) ∙ stands_at longs refusals shorts at again within is_again)
+
+-- two that are kept short, in the same bytes
+pub short_same : (longs others : List Receipt) (refusals denials : List Refusal) (shorts packeds : List Packed) (at place : ℕ) (one another : Packed) →
+    at < length (receipts_of longs refusals shorts) → one ≡ get_or shorts at one → place < length (receipts_of others denials packeds) →
+    another ≡ get_or packeds place another → is_short (unpacked one).deed ≡ true → one ≡ another →
+    slice_get (receipts_of longs refusals shorts) at ≡ slice_get (receipts_of others denials packeds) place
+short_same longs others refusals denials shorts packeds at place one another within is within_too is_too short same =
+    read_short longs refusals shorts at one (plain (unpacked one)) within is short refl
+    ∙ sym (read_short others denials packeds place another (plain (unpacked one)) within_too is_too
+    (subst (λ (p : Packed). is_short (unpacked p).deed ≡ true) same short) (ap (λ (p : Packed). plain (unpacked p)) same))
+
+-- an entry is at the place of its receipt
+pub entry_at : (receipts : List Receipt) (at : ℕ) (receipt : Receipt) (entry : Entry) → slice_get receipts at ≡ Some receipt → entry ≡ entry_of receipt →
+    slice_get (entries_of receipts) at ≡ Some entry
+entry_at receipts at receipt entry here is =
+    slice_get-map entry_of receipts at ∙ ap (option_map entry_of) here ∙ ap (λ (e : Entry). Some e) (sym is)
+
+-- the same receipt at two places has one entry
+pub entries_same : (ours theirs : List Receipt) (at place : ℕ) → at < length (entries_of ours) → place < length theirs →
+    slice_get ours at ≡ slice_get theirs place → (e : Entry) (r : Receipt) → entry_of (get_or theirs place r) ≡ get_or (entries_of ours) at e
+entries_same ours theirs at place within within_too same e r =
+    let there : slice_get ours at ≡ Some (get_or theirs place r) = same ∙ slice_get-get_or theirs place r within_too in
+    sym (get_or_from_slice_get (entries_of ours) at (entry_of (get_or theirs place r)) e (entry_at ours at (get_or theirs place r) _ there refl))
+
+-- two that were read at these places, and held against each other
+pub entries_told : (entries : List Entry) (receipts : List Receipt) (at place : ℕ) (entry kept : Entry) (receipt : Receipt) (same : Bool) →
+    slice_get receipts place ≡ Some receipt → kept ≡ entry_of receipt → slice_get entries at ≡ Some entry →
+    (IsTrue same → kept ≡ entry) × (kept ≡ entry → IsTrue same) →
+    (IsTrue same → (e : Entry) (r : Receipt) → entry_of (get_or receipts place r) ≡ get_or entries at e)
+    × (((e : Entry) (r : Receipt) → entry_of (get_or receipts place r) ≡ get_or entries at e) → IsTrue same)
+entries_told entries receipts at place entry kept receipt same there is here told =
+    let found = λ (e : Entry) (r : Receipt). ap entry_of (get_or_from_slice_get receipts place receipt r there) ∙ sym is in
+    let mine = λ (e : Entry). get_or_from_slice_get entries at entry e here in
+    ((λ yes e r. found e r ∙ told.0 yes ∙ sym (mine e)), (λ all. told.1 (sym (found entry receipt) ∙ all entry receipt ∙ mine entry)))

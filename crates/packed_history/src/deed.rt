@@ -34,6 +34,14 @@ pub fn to_u32(value: u64) -> Option<u32>
     }
 }
 
+/// The numbers of a deed with a value, where it is small.
+#[inline(always)]
+pub fn with_value(tag: u64, first: u32, value: u64) -> Option<Numbers>
+    ensures { IfSome result (λ numbers. numbers ≡ record { tag = tag; first = first; second = value }) }
+{
+    Some(in_numbers(tag, first, to_u32(value)?))
+}
+
 /// A spawn, where the next strand has the number behind the child's.
 #[inline(always)]
 fn spawn_numbers(strands: Spawned) -> Option<Numbers>
@@ -63,18 +71,12 @@ pub fn numbers_of(act: Act, answer: Answer) -> Option<Numbers>
         (Act::Return, Answer::Ended) => Some(in_numbers(7, 0, 0)),
         (Act::Return, Answer::EndedJoined(join)) => Some(in_numbers(8, join, 0)),
         (Act::Return, Answer::Finished) => Some(in_numbers(9, 0, 0)),
-        (Act::Read(cell), Answer::Value(value)) => Some(in_numbers(10, cell, to_u32(value)?)),
-        (Act::Write(cell, value), Answer::Granted) => Some(in_numbers(11, cell, to_u32(value)?)),
-        (Act::Bump(cell, value), Answer::Granted) => Some(in_numbers(12, cell, to_u32(value)?)),
-        (Act::Update(reducer, value), Answer::Granted) => {
-            Some(in_numbers(13, reducer, to_u32(value)?))
-        }
-        (Act::Put(reducer, value), Answer::Granted) => Some(in_numbers(
-            14,
-            reducer,
-            to_u32(value)?,
-        )),
-        (Act::Get(reducer), Answer::Value(value)) => Some(in_numbers(15, reducer, to_u32(value)?)),
+        (Act::Read(cell), Answer::Value(value)) => with_value(10, cell, value),
+        (Act::Write(cell, value), Answer::Granted) => with_value(11, cell, value),
+        (Act::Bump(cell, value), Answer::Granted) => with_value(12, cell, value),
+        (Act::Update(reducer, value), Answer::Granted) => with_value(13, reducer, value),
+        (Act::Put(reducer, value), Answer::Granted) => with_value(14, reducer, value),
+        (Act::Get(reducer), Answer::Value(value)) => with_value(15, reducer, value),
         _ => None,
     }
 }

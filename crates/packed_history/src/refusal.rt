@@ -3,7 +3,7 @@
 ghost use Rattle.std.specs.Prelude.{◌≡◌, ◌↔◌, IsTrue, IfSome};
 ghost use Rattle.packed_history.specs.Refusals.{IsAsked, act_with, answer_with};
 
-use crate::deed::{Numbers, in_numbers, to_u32};
+use crate::deed::{Numbers, in_numbers, with_value};
 use model_accesses::{Act, Kind, Rule, Witness};
 use model_histories::Answer;
 use std::mem::size_of;
@@ -27,10 +27,10 @@ pub fn access_numbers(act: Act) -> Option<Numbers>
 {
     match act {
         Act::Read(cell) => Some(in_numbers(16, cell, 0)),
-        Act::Write(cell, value) => Some(in_numbers(17, cell, to_u32(value)?)),
-        Act::Bump(cell, value) => Some(in_numbers(18, cell, to_u32(value)?)),
-        Act::Update(reducer, value) => Some(in_numbers(19, reducer, to_u32(value)?)),
-        Act::Put(reducer, value) => Some(in_numbers(20, reducer, to_u32(value)?)),
+        Act::Write(cell, value) => with_value(17, cell, value),
+        Act::Bump(cell, value) => with_value(18, cell, value),
+        Act::Update(reducer, value) => with_value(19, reducer, value),
+        Act::Put(reducer, value) => with_value(20, reducer, value),
         Act::Get(reducer) => Some(in_numbers(21, reducer, 0)),
         _ => None,
     }

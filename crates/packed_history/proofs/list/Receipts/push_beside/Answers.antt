@@ -1,4 +1,5 @@
 use Rattle.std.proofs.Common.{◌≡◌, true, false, length, arith}
+use Rattle.std.proofs.lemmas.Bool.{false≢true}
 use Rattle.packed_history.specs.Packing.{unpacked}
 use Rattle.packed_history.specs.Shorts.{index_of}
 use Rattle.packed_history.proofs.Kept.{Grown, grown_long, grown_refused}
@@ -28,10 +29,10 @@ long_grows g c =
     c.push_reserved-in-None-2.ensures.items c.self.invariant.0 c.long_at-short.ensures.long at
 
 pub invariant_of-self : goal.invariant_of-self
-invariant_of-self g c = ((refused_grows g c).0, (λ (never : false ≡ true). absurd cc), λ (never : false ≡ true). absurd cc)
+invariant_of-self g c = ((refused_grows g c).0, (λ (never : false ≡ true). absurd (false≢true never)), λ (never : false ≡ true). absurd (false≢true never))
 
 pub invariant_of-self-in-None : goal.invariant_of-self-in-None
-invariant_of-self-in-None g c = ((long_grows g c).0, (λ (never : false ≡ true). absurd cc), λ (never : false ≡ true). absurd cc)
+invariant_of-self-in-None g c = ((long_grows g c).0, (λ (never : false ≡ true). absurd (false≢true never)), λ (never : false ≡ true). absurd (false≢true never))
 
 pub returns-in-Some : goal.returns-in-Some
 returns-in-Some g c = rw (← c.self.view_is) ((refused_grows g c).1)
