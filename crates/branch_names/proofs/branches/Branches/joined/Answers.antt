@@ -1,4 +1,5 @@
 use Rattle.std.proofs.Common.{◌∷◌, length, ap, arith}
+use Rattle.std.proofs.lemmas.Bool.{false≢true}
 use Rattle.branch_names.specs.Names.{Names, Given, branch_number}
 use Rattle.branch_names.specs.Packed.{name_of, names_of}
 use Rattle.branch_names.proofs.Events.{joined-known, given-joined}
@@ -26,4 +27,4 @@ invariant_of-self g c =
     let items = ap (λ (branches : Names). branches.names) c.self.view_is in
     let kept = name-read c.self.inside.names.items c.args.self.now.names c.args.join c.index.result.now items (joined-known c.args.self.now c.args.join c.requires.takes) c.index.ensures in
     let (event, begins, (history, follows, legal)) = c.requires.takes in
-    ((event ∷ history, given-joined (names_of c.self.inside.names.items) c.args.self.now _ history event c.args.join (branch_number (name_of c.index.result.now)) items (names-set c.self.inside.names.items c.args.join c.begun.result (Given (branch_number (name_of c.index.result.now))) c.begun.ensures) follows begins legal (ap branch_number kept)), (λ e. absurd (cc)))
+    ((event ∷ history, given-joined (names_of c.self.inside.names.items) c.args.self.now _ history event c.args.join (branch_number (name_of c.index.result.now)) items (names-set c.self.inside.names.items c.args.join c.begun.result (Given (branch_number (name_of c.index.result.now))) c.begun.ensures) follows begins legal (ap branch_number kept)), (λ e. absurd (false≢true e)))

@@ -1,4 +1,5 @@
 use Rattle.std.proofs.Common.{◌∙◌, length, refl, ap, arith}
+use Rattle.std.proofs.lemmas.Bool.{false≢true}
 use Rattle.branch_names.specs.Names.{Names, Given, Kept}
 use Rattle.branch_names.specs.Packed.{names_of}
 use Rattle.branch_names.proofs.Events.{spawner-known, begun-numbered, pushed-first, pushed-later}
@@ -38,10 +39,10 @@ invariant_of-self g c =
     let items = ap (λ (branches : Names). branches.names) c.self.view_is in
     let (history, follows, legal) = c.requires.takes in
     let kept = number-read c.self.inside.names.items c.args.self.now.names c.args.strand c.number-kept.result c.index.result.now items (spawner-known c.args.self.now c.args.strand c.args.spawned.now.child c.args.spawned.now.next c.args.spawned.now.join c.args.spawned.now.first c.requires.takes) c.index.ensures c.number-kept.ensures.is in
-    ((_, pushed-first (names_of c.self.inside.names.items) (names_of c.push_reserved.new.self.items) (names_of c.push_reserved-2.new.self.items) (names_of c.push_reserved-then-spawned.new.self.items) c.args.self.now _ history c.args.strand c.args.spawned.now.child c.args.spawned.now.next c.args.spawned.now.join c.number-kept.result c.args.spawned.now.first items (names-pushed c.self.inside.names.items c.push_reserved.new.self.items c.given.result (Given c.args.spawned.now.child) c.push_reserved.ensures.items c.given.ensures) (names-pushed c.push_reserved.new.self.items c.push_reserved-2.new.self.items c.given-2.result (Given c.args.spawned.now.next) c.push_reserved-2.ensures.items c.given-2.ensures) (names-pushed c.push_reserved-2.new.self.items c.push_reserved-then-spawned.new.self.items c.kept.result (Kept c.number-kept.result) c.push_reserved-then-spawned.ensures.items c.kept.ensures) c.if-spawned.true refl follows legal kept), (λ e. absurd (cc)))
+    ((_, pushed-first (names_of c.self.inside.names.items) (names_of c.push_reserved.new.self.items) (names_of c.push_reserved-2.new.self.items) (names_of c.push_reserved-then-spawned.new.self.items) c.args.self.now _ history c.args.strand c.args.spawned.now.child c.args.spawned.now.next c.args.spawned.now.join c.number-kept.result c.args.spawned.now.first items (names-pushed c.self.inside.names.items c.push_reserved.new.self.items c.given.result (Given c.args.spawned.now.child) c.push_reserved.ensures.items c.given.ensures) (names-pushed c.push_reserved.new.self.items c.push_reserved-2.new.self.items c.given-2.result (Given c.args.spawned.now.next) c.push_reserved-2.ensures.items c.given-2.ensures) (names-pushed c.push_reserved-2.new.self.items c.push_reserved-then-spawned.new.self.items c.kept.result (Kept c.number-kept.result) c.push_reserved-then-spawned.ensures.items c.kept.ensures) c.if-spawned.true refl follows legal kept), (λ e. absurd (false≢true e)))
 
 pub invariant_of-self-else-spawned : goal.invariant_of-self-else-spawned
 invariant_of-self-else-spawned g c =
     let items = ap (λ (branches : Names). branches.names) c.self.view_is in
     let (history, follows, legal) = c.requires.takes in
-    ((_, pushed-later (names_of c.self.inside.names.items) (names_of c.push_reserved.new.self.items) (names_of c.push_reserved-2.new.self.items) c.args.self.now _ history c.args.strand c.args.spawned.now.child c.args.spawned.now.next c.args.spawned.now.join c.args.spawned.now.first items (names-pushed c.self.inside.names.items c.push_reserved.new.self.items c.given.result (Given c.args.spawned.now.child) c.push_reserved.ensures.items c.given.ensures) (names-pushed c.push_reserved.new.self.items c.push_reserved-2.new.self.items c.given-2.result (Given c.args.spawned.now.next) c.push_reserved-2.ensures.items c.given-2.ensures) c.if-spawned.false refl follows legal), (λ e. absurd (cc)))
+    ((_, pushed-later (names_of c.self.inside.names.items) (names_of c.push_reserved.new.self.items) (names_of c.push_reserved-2.new.self.items) c.args.self.now _ history c.args.strand c.args.spawned.now.child c.args.spawned.now.next c.args.spawned.now.join c.args.spawned.now.first items (names-pushed c.self.inside.names.items c.push_reserved.new.self.items c.given.result (Given c.args.spawned.now.child) c.push_reserved.ensures.items c.given.ensures) (names-pushed c.push_reserved.new.self.items c.push_reserved-2.new.self.items c.given-2.result (Given c.args.spawned.now.next) c.push_reserved-2.ensures.items c.given-2.ensures) c.if-spawned.false refl follows legal), (λ e. absurd (false≢true e)))

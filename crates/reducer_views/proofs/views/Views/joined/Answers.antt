@@ -1,4 +1,5 @@
 use Rattle.std.proofs.Common.{sym, subst, arith}
+use Rattle.std.proofs.lemmas.Bool.{false≢true}
 use Rattle.std.proofs.lemmas.List.{with_items_is}
 use Rattle.reducer_views.specs.Pieces.{all_kept, AreKept}
 use Rattle.reducer_views.proofs.Following.{joined_lent, ended_joined_lent}
@@ -12,7 +13,7 @@ pub invariant_of-self : goal.invariant_of-self
 invariant_of-self g c = (
   subst (λ ps. AreKept c.self.inside.monoids.items (all_kept ps)) (sym (with_items_is c.self.inside.pieces c.gather_block.new.pieces (omega (arith, c.self.inside.pieces.ok))))
       (c.gather_block.ensures.sound c.self.inside.monoids.items (subst (λ ps. AreKept c.self.inside.monoids.items (all_kept ps)) (sym c.deref_mut.ensures.value) c.self.invariant.0)),
-  λ e. absurd (cc),
+  λ e. absurd (false≢true e),
 )
 
 pub returns-clause-at_sync : goal.returns-clause-at_sync

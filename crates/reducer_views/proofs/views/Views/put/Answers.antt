@@ -1,4 +1,5 @@
 use Rattle.std.proofs.Common.{ap, arith}
+use Rattle.std.proofs.lemmas.Bool.{false≢true}
 use Rattle.std.proofs.lemmas.List.{with_items_is}
 use Rattle.reducer_views.proofs.Slots.{full, way_room}
 use Rattle.reducer_views.proofs.Following.{home_read, home_lent, put_sound, put_lent}
@@ -14,7 +15,7 @@ pub invariant_of-self : goal.invariant_of-self
 invariant_of-self g c = (
   put_sound _ _ _ _ _ _ _ _ _ _ _ _ c.self.view_is (with_items_is c.self.inside.pieces c.set_at.new.pieces (omega (arith, c.self.inside.pieces.ok))) c.deref_mut.ensures.value c.self.invariant.0
       c.requires.known (home_read _ _ _ _ c.deref.ensures.value c.home_of-home.ensures) c.index-monoid.ensures c.of_put-view.ensures.fits c.set_at.ensures,
-  λ e. absurd (cc),
+  λ e. absurd (false≢true e),
 )
 
 pub returns-clause-follows : goal.returns-clause-follows

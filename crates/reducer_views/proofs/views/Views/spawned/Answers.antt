@@ -1,4 +1,5 @@
 use Rattle.std.proofs.Common.{refl}
+use Rattle.std.proofs.lemmas.Bool.{false≢true}
 use Rattle.reducer_views.proofs.Grown.{grown_kept}
 use Rattle.reducer_views.proofs.Following.{home_read, home_lent, split_at}
 use Rattle.reducer_views.proofs.views.Views.spawned.Goals as goal
@@ -8,7 +9,7 @@ grow-requires-clause-home_known g c = home_lent _ _ _ _ _ c.self.invariant.0 ref
 
 pub invariant_of-self : goal.invariant_of-self
 invariant_of-self g c =
-    (grown_kept _ _ _ _ _ (home_lent _ _ _ _ _ c.self.invariant.0 refl (home_read _ _ _ _ c.deref.ensures.value c.home_of-home.ensures)) c.grow.ensures c.self.invariant.0, λ e. absurd (cc))
+    (grown_kept _ _ _ _ _ (home_lent _ _ _ _ _ c.self.invariant.0 refl (home_read _ _ _ _ c.deref.ensures.value c.home_of-home.ensures)) c.grow.ensures c.self.invariant.0, λ e. absurd (false≢true e))
 
 pub returns-clause-follows : goal.returns-clause-follows
 returns-clause-follows g c steps l k a =
