@@ -1,12 +1,23 @@
 use Rattle.std.proofs.Common.{◌≡◌, ◌≢◌, ◌∙◌, Some, sym, ap, refl}
+use Rattle.std.proofs.lemmas.Bool.{false≢true}
 use Rattle.law_strands.specs.Branches.{branch}
 use Rattle.branch_names.proofs.Queries.{named-begun}
+use Rattle.model_accesses.specs.declared.kind.Kind.TheVariants.{Get, Put}
 use Rattle.model_accesses.specs.declared.witness.Witness.{Witness}
-use Rattle.view_read_rule.specs.declared.reads.ViewVerdict.TheVariants.{Refused}
+use Rattle.view_read_rule.specs.declared.reads.ViewVerdict.TheVariants.{Granted, Refused, Unset}
 use Rattle.model_accesses.specs.Reads.{ReducerRead, witness_of}
 use Rattle.view_read_rule.proofs.Firsts.{first-of, none-of, kept-read, some-kept, none-kept, put-read}
 use Rattle.view_read_rule.proofs.Granted.{all-same, other-peers}
 use Rattle.view_read_rule.proofs.reads.ReadPeers.judge.Goals as goal
+
+granted-refused : {witness : Witness} → Granted ≡ Refused witness → ⊥
+granted-refused e = cc
+
+granted-unset : Granted ≡ Unset → ⊥
+granted-unset e = cc
+
+get-put : Get ≡ Put → ⊥
+get-put e = cc
 
 pub same-requires-clause-first_named : goal.same-requires-clause-first_named
 same-requires-clause-first_named g c =
@@ -32,7 +43,7 @@ returns-then-same-clause-refused g c reads history remembers follows witness =
     let at = kept-read _ _ c.args.reducer c.index.result.now c.self.view_is c.requires.in_range c.index.ensures ∙ c.in-Some.is in
     let (first, found, is) = some-kept _ reads c.args.reducer c.in-Some.first remembers c.requires.in_range at in
     let same : branch history first.strand ≡ branch history c.args.strand = ap (λ (witness : Witness). branch history witness.strand) (sym is) ∙ (c.same.ensures.branches history follows).0 c.if-same.true in
-    ((λ e. absurd (cc)), (λ (read, found_read, is_read, differs). absurd (differs (ap (λ (one : ReducerRead). branch history one.strand) (same-read (sym found_read ∙ found)) ∙ same))))
+    ((λ e. absurd (granted-refused e)), (λ (read, found_read, is_read, differs). absurd (differs (ap (λ (one : ReducerRead). branch history one.strand) (same-read (sym found_read ∙ found)) ∙ same))))
 
 pub returns-then-same-clause-granted : goal.returns-then-same-clause-granted
 returns-then-same-clause-granted g c reads history remembers follows =
@@ -58,7 +69,7 @@ returns-else-same-clause-refused g c reads history remembers follows witness =
     let at = kept-read _ _ c.args.reducer c.index.result.now c.self.view_is c.requires.in_range c.index.ensures ∙ c.in-Some.is in
     let (first, found, is) = some-kept _ reads c.args.reducer c.in-Some.first remembers c.requires.in_range at in
     let differs : branch history first.strand ≢ branch history c.args.strand =
-    λ e. let yes = (c.same.ensures.branches history follows).1 (ap (λ (one : Witness). branch history one.strand) is ∙ e) in absurd (cc c.if-same.false) in (
+    λ e. let yes = (c.same.ensures.branches history follows).1 (ap (λ (one : Witness). branch history one.strand) is ∙ e) in absurd (false≢true (sym c.if-same.false ∙ yes)) in (
       (λ e. (first, found, sym (refused-same e) ∙ is, differs)),
       (λ (read, found_read, is_read, other). ap Refused (is ∙ (ap witness_of (some-same (sym found ∙ found_read)) ∙ sym is_read))),
     )
@@ -90,7 +101,7 @@ returns-in-Get-clause-unset g c reads remembers =
 pub returns-in-Get-clause-granted : goal.returns-in-Get-clause-granted
 returns-in-Get-clause-granted g c reads history remembers follows =
     let at = kept-read _ _ c.args.reducer c.index.result.now c.self.view_is c.requires.in_range c.index.ensures ∙ c.in-None.is in
-    ((λ e. absurd (cc)), (λ t. let put = rw (none-kept _ reads c.args.reducer remembers c.requires.in_range at) at t in absurd (cc)))
+    ((λ e. absurd (granted-unset (sym e))), (λ t. let put = rw (none-kept _ reads c.args.reducer remembers c.requires.in_range at) at t in absurd (get-put (sym c.in-Get.is ∙ put))))
 
 pub returns-in-Get-clause-all_same : goal.returns-in-Get-clause-all_same
 returns-in-Get-clause-all_same g c reads history remembers follows one e read is_read =
@@ -111,9 +122,9 @@ pub returns-in_default : goal.returns-in_default
 returns-in_default g c =
     let at = kept-read _ _ c.args.reducer c.index.result.now c.self.view_is c.requires.in_range c.index.ensures ∙ c.in-None.is in
     record {
-      unset = λ reads remembers. ((λ e. absurd (cc)), (λ get. absurd (c.in_default.not-Get get.0)));
+      unset = λ reads remembers. ((λ e. absurd (granted-unset e)), (λ get. absurd (c.in_default.not-Get get.0)));
       refused = λ reads history remembers follows witness. (
-        (λ e. absurd (cc)),
+        (λ e. absurd (granted-refused e)),
         (λ (read, found, is, differs). absurd (none-of reads c.args.reducer read (none-kept _ reads c.args.reducer remembers c.requires.in_range at) (first-of reads c.args.reducer read found))),
       );
       granted = λ reads history remembers follows. ((λ e. rw (none-kept _ reads c.args.reducer remembers c.requires.in_range at) (put-read c.args.kind c.requires.reducer_read c.in_default.not-Get)), (λ t. refl));
