@@ -86,6 +86,19 @@ begun-standing roster history f strand b =
     let lt = begun-known roster history f strand b in
     (lt, begun-stands history strand _ (f.each strand lt).standing b)
 
+no-begun-standing : (standing : Standing) → (standing ≡ Runs → ⊥) → (standing ≡ Over → ⊥) → IsBegunStanding standing → ⊥
+no-begun-standing Reserved not_runs not_ended b = b
+no-begun-standing Awaited not_runs not_ended b = b
+no-begun-standing Runs not_runs not_ended b = not_runs refl
+no-begun-standing Over not_runs not_ended b = not_ended refl
+
+-- a strand with a record of another standing has not begun
+pub not-begun : (roster : Roster) (history : History) → Follows roster history → (strand : ℕ) (kept : Record) → kept ≡ record_at roster.records strand →
+    (kept.standing ≡ Runs → ⊥) → (kept.standing ≡ Over → ⊥) → Begun history strand → ⊥
+not-begun roster history f strand kept is not_runs not_ended begun =
+    no-begun-standing kept.standing not_runs not_ended
+    (subst (λ (k : Record). IsBegunStanding k.standing) (sym is) (begun-standing roster history f strand begun).1)
+
 standing-begun : (roster : Roster) (history : History) → Follows roster history → (strand : ℕ) → strand < length roster.records →
     IsBegunStanding (record_at roster.records strand).standing → Begun history strand
 standing-begun roster history f strand lt b = stands-begun history strand _ (f.each strand lt).standing b

@@ -1,8 +1,8 @@
 use Rattle.std.proofs.Common.{refl, sym, subst, arith}
-use Rattle.std.proofs.lemmas.Bool.{ltb-true}
+use Rattle.std.proofs.lemmas.Bool.{false≢true, ltb-true}
 use Rattle.sp_labels.specs.Roster.{Follows, HasBegun}
 use Rattle.sp_labels.proofs.Packed.{length-unpacked, known-unpacked}
-use Rattle.sp_labels.proofs.Queries.{begun-standing, begun-kept, has-begun-known}
+use Rattle.sp_labels.proofs.Queries.{begun-standing, begun-kept, has-begun-known, not-begun}
 use Rattle.sp_labels.proofs.roster.Strands.is_begun.Goals as goal
 
 pub returns-else-strand-len-clause-each : goal.returns-else-strand-len-clause-each
@@ -27,3 +27,16 @@ returns-in-Running-clause-begun g c =
     let (history, f) = c.self.invariant.0 in
     let now = subst (λ r. Follows r history) c.self.view_is f in
     ((λ t. (history, now, (returns-in-Running-clause-each g c history now).0 t)), (λ begun. refl))
+
+pub returns-in_default-clause-each : goal.returns-in_default-clause-each
+returns-in_default-clause-each g c history now =
+    let f = subst (λ r. Follows r history) (sym c.self.view_is) now in (
+      (λ t. absurd (false≢true t)),
+      (λ begun. absurd (not-begun _ history f c.args.strand _ c.record_of.ensures c.in_default.not-Running c.in_default.not-Over begun)),
+    )
+
+pub returns-in_default-clause-begun : goal.returns-in_default-clause-begun
+returns-in_default-clause-begun g c = (
+  (λ t. absurd (false≢true t)),
+  (λ (history, now, begun). (returns-in_default-clause-each g c history now).1 begun),
+)
