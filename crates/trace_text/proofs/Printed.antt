@@ -99,8 +99,8 @@ merged_takes bound mem rest requests e r rs l =
     let after : nat_lt mem.line r.line ≡ false = grind (arith, nat_tests) in
     ap (λ (b : Bool). cond b (OfMemory mem ∷ rest (r ∷ rs)) (OfReducer r ∷ merged_into mem rest rs) ++ requests) after
 
-pub drop_memory : (mems : List Mem) (i : ℕ) (mem : Mem) → i < length mems → mem ≡ get_or mems i mem → drop i mems ≡ mem ∷ drop (i + 1) mems
-drop_memory mems i mem l e = rw (add-one, drop-cons mems i mem) (ap (λ (m : Mem). m ∷ drop (suc i) mems) (sym e))
+pub drop_here : {A : Type 0} (xs : List A) (i : ℕ) (x : A) → i < length xs → x ≡ get_or xs i x → drop i xs ≡ x ∷ drop (i + 1) xs
+drop_here {A} xs i x l e = rw (add-one, drop-cons xs i x) (ap (λ (y : A). y ∷ drop (suc i) xs) (sym e))
 
 pub declared_step : (known : Known) (mem : Mem) (more : List Mem) (requests : List Entry) (bound : ℕ) (old mid new whole : List ℕ) (at next after : ℕ) (rest left : List Reducer)
     → bound ≡ mem.line → StartsPast bound left

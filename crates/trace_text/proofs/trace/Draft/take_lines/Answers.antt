@@ -1,4 +1,4 @@
-use Rattle.std.proofs.Common.{◌≡◌, ◌+◌, arith}
+use Rattle.std.proofs.Common.{◌+◌, length, length-append, ap, arith}
 use Rattle.trace_text.specs.Drafts.{so_far, IsTaken}
 use Rattle.trace_text.proofs.PlainPieces.{reads_count, reads_means, reads_faults, reads_some}
 use Rattle.trace_text.proofs.RoomFaults.{means_on, fault_on}
@@ -43,3 +43,15 @@ loop-rest-preserved g c =
       means = λ contents means. c.loop-rest.invariant.means contents (reads_means _ _ _ _ _ _ reads contents means);
       faults = λ bad cause fault. c.loop-rest.invariant.faults bad cause (reads_faults _ _ _ _ _ _ reads bad cause fault);
     }
+
+pub loop-rest-smaller-then-not-is_empty : goal.loop-rest-smaller-then-not-is_empty
+loop-rest-smaller-then-not-is_empty g c =
+    let reads = c.take_plain_lines-number.ensures in
+    let at = c.take_plain_lines-number.result.1 + 1 in
+    let mid = so_far c.take_plain_lines-number.new.self.names c.take_plain_lines-number.new.self.lines in
+    let after = so_far c.take_other-fault.new.self.names c.take_other-fault.new.self.lines in
+    let behind = c.take_plain_lines-number.result.0.now in
+    let taken : IsTaken at mid behind c.take_other-fault.result.0.now after = rw c.in_default.is at c.take_other-fault.ensures in
+    let split = ap length reads.split in
+    let added = length-append reads.front behind in
+    omega (arith, taken.2, split, added)
