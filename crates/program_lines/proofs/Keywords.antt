@@ -1,5 +1,5 @@
 -- A word is the word of one keyword at most, and of one sign.
-use Rattle.std.proofs.Common.{◌≡◌, ℕ, cond, List, get_or, refl, sym, ap, ◌∙◌}
+use Rattle.std.proofs.Common.{◌≡◌, ◌↔◌, ℕ, cond, List, Some, get_or, refl, sym, ap, subst, ◌∙◌}
 use Rattle.std.specs.Prelude.{◌==◌}
 use Rattle.model_accesses.specs.declared.kind.Kind.TheVariants as kind
 use Rattle.program_lines.specs.declared.keyword.Keyword.{Keyword}
@@ -7,7 +7,8 @@ use Rattle.program_lines.specs.declared.keyword.Keyword.TheVariants.{Mem, Reduce
 use Rattle.program_lines.specs.declared.operator.Operator.{Operator}
 use Rattle.program_lines.specs.declared.operator.Operator.TheVariants.{Plus, Minus, Times, Below}
 use Rattle.program_lines.specs.Places.{sign_spelling}
-use Rattle.program_lines.specs.Table.{spelling}
+use Rattle.text_words.specs.declared.value.Version.{Version}
+use Rattle.program_lines.specs.Table.{spelling, HasKeyword}
 
 -- the keyword whose first, second and third letters are these
 abbrev keyword_by : ℕ → ℕ → ℕ → Keyword
@@ -39,6 +40,17 @@ keyword_of_spelling ParallelFor = refl
 keyword_of_spelling If = refl
 keyword_of_spelling Else = refl
 keyword_of_spelling End = refl
+
+some_same : (keyword other : Keyword) → Some keyword ≡ Some other → keyword ≡ other
+some_same keyword other e = cc
+
+-- a word that is spelled as a keyword of the version is no other keyword
+pub only_keyword : (version : Version) (word : List ℕ) (found : Keyword) → HasKeyword version found → word ≡ spelling found
+    → (keyword : Keyword) → (Some found ≡ Some keyword) ↔ (HasKeyword version keyword × (word ≡ spelling keyword))
+only_keyword version word found has is keyword = (
+  (λ e. subst (λ (k : Keyword). HasKeyword version k × (word ≡ spelling k)) (some_same found keyword e) (has, is)),
+  (λ t. ap Some (sym (keyword_of_spelling found) ∙ (ap keyword_of_word (sym is ∙ t.1) ∙ keyword_of_spelling keyword))),
+)
 
 abbrev pub sign_of_word : List ℕ → Operator
 sign_of_word word = cond (get_or word 0 0 == 43) Plus (cond (get_or word 0 0 == 45) Minus (cond (get_or word 0 0 == 42) Times Below))
