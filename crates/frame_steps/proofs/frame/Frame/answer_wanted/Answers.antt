@@ -1,15 +1,18 @@
-use Rattle.std.proofs.Common.{◌≡◌, ◌∙◌, ap, sym, Some, None, length}
+use Rattle.std.proofs.Common.{◌≡◌, ◌∙◌, ℕ, ap, sym, subst, Some, None, Err, length, rules}
 use Rattle.text_words.specs.Declarations.{cells_of}
 use Rattle.model_bodies.specs.declared.statement.Statement.TheVariants.{Call}
 use Rattle.frame_steps.specs.declared.activation.Activation.{Activation}
-use Rattle.model_programs.specs.Values.{value_of}
+use Rattle.model_bodies.specs.declared.statement.Operand.{Operand}
+use Rattle.model_programs.specs.Values.{Registers, value_of}
 use Rattle.frame_steps.specs.Requests.{answered}
 use Rattle.frame_steps.specs.Activations.{left, statement_of}
-use Rattle.frame_steps.proofs.Takings.{taken, left_same, statement_same}
+use Rattle.frame_steps.proofs.Takings.{taken, not_taken, left_same, statement_same}
 use Rattle.frame_steps.specs.Joins.{join_after}
 use Rattle.frame_steps.specs.States.{FrameState}
+use Rattle.frame_steps.specs.declared.frame.FrameFault.{FrameFault}
+use Rattle.frame_steps.specs.Frames.{IsAnswered}
 use Rattle.frame_steps.proofs.Answered.{refused, left_answered, call_answered, statement_answered}
-use Rattle.frame_steps.proofs.Histories.{call_same}
+use Rattle.frame_steps.proofs.Histories.{call_same, answer_strange}
 use Rattle.frame_steps.proofs.frame.Frame.answer_wanted.Goals as goal
 
 pub returns-in-None : goal.returns-in-None
@@ -57,3 +60,25 @@ returns-then-apply_answer g c =
     (λ t is plain. ap (λ a. left functions a) (sym top) ∙ sym (left_same functions _ _) ∙ c.go_on.ensures.behind t (statement_same functions _ _ ∙ ap (λ a. statement_of functions a) top ∙ is) plain)
     (c.go_on.ensures.rest.0 ∙ ap (λ (s : FrameState). s.callers) c.self.view_is) c.go_on.ensures.rest.1
     (c.go_on.ensures.rest.2 ∙ ap (λ (s : FrameState). s.has_room) c.self.view_is)
+
+pub returns-else-apply_answer : goal.returns-else-apply_answer
+returns-else-apply_answer g c =
+    let functions = c.args.program.now.functions in
+    let before = c.args.self.now in
+    let frame = c.self.inside in
+    let top = ap (λ (s : FrameState). s.top) c.self.view_is in
+    let statement = c.in-Some.statement in
+    let e : statement_of functions before.top ≡ Some statement = ap (λ t. statement_of functions t) (sym top) ∙ sym c.statement.ensures.at ∙ c.in-Some.is in
+    let none = not_taken _ _ _ c.apply_answer.new.registers c.apply_answer.ensures c.if-apply_answer.false in
+    let r : answered statement c.args.answer.now before.top.registers ≡ None = ap (λ (t : Activation). answered statement c.args.answer.now t.registers) (sym top) ∙ none.0 in
+    let not_call : (line function : ℕ) (argument : Operand) → statement ≡ Call line function argument → ⊥ = search rules in
+    let with : Registers → FrameState = λ registers. record { phase = frame.phase; top = record frame.top { registers = registers }; callers = frame.callers.items; has_room = frame.has_room } in
+    let same : with c.apply_answer.new.registers ≡ before = ap with none.1 ∙ c.self.view_is in
+    subst (λ (s : FrameState). IsAnswered {T = Unit {0}} functions before c.args.answer.now (Err FrameFault.Strange) s) (sym same)
+    (refused functions before c.args.answer.now c.requires.stands (answer_strange functions before statement c.args.answer.now not_call e r))
+
+pub invariant_of-self : goal.invariant_of-self
+invariant_of-self g c = c.self.invariant
+
+pub invariant_of-self-else-apply_answer : goal.invariant_of-self-else-apply_answer
+invariant_of-self-else-apply_answer g c = c.self.invariant

@@ -1,4 +1,5 @@
 use Rattle.std.proofs.Common.{◌≡◌, ◌≢◌, ◌↔◌, ◌∙◌, ap, sym, subst, Some}
+use Rattle.std.proofs.lemmas.Bool.{false≢true}
 use Rattle.frame_steps.specs.declared.activation.Activation.{Activation}
 use Rattle.frame_steps.specs.Scripts.{PassesAll}
 use Rattle.frame_steps.specs.Activations.{left}
@@ -14,7 +15,7 @@ pub returns-then-matches : goal.returns-then-matches
 returns-then-matches g c =
     let over : c.args.self.now.phase ≡ Over = elim c.match-matches.branch [
       | in-Over w ↦ ap (λ (s : FrameState). s.phase) (sym c.self.view_is) ∙ w.in-Over.is
-      | in_default w ↦ absurd (let e = c.if-matches.true in let f = w.matches-is in cc)
+      | in_default w ↦ absurd (false≢true (sym w.matches-is ∙ c.if-matches.true))
     ] in
     over_wraps c.args.program.now.functions c.args.self.now over
 
@@ -23,7 +24,7 @@ returns-in-Some g c = λ function argument history is index.
     let functions = c.args.program.now.functions in
     let after = c.seek-want.new.self in
     let going : c.args.self.now.phase ≢ Over = λ over. elim c.match-matches.branch [
-      | in-Over w ↦ (let e = c.if-matches.false in let f = w.matches-is in cc)
+      | in-Over w ↦ false≢true (sym c.if-matches.false ∙ w.matches-is)
       | in_default w ↦ w.in_default.not-Over (ap (λ (s : FrameState). s.phase) c.self.view_is ∙ over)
     ] in
     let top = ap (λ (s : FrameState). s.top) c.self.view_is in
@@ -37,7 +38,7 @@ returns-in-None g c = λ function argument history is index.
     let functions = c.args.program.now.functions in
     let after = c.seek-want.new.self in
     let going : c.args.self.now.phase ≢ Over = λ over. elim c.match-matches.branch [
-      | in-Over w ↦ (let e = c.if-matches.false in let f = w.matches-is in cc)
+      | in-Over w ↦ false≢true (sym c.if-matches.false ∙ w.matches-is)
       | in_default w ↦ w.in_default.not-Over (ap (λ (s : FrameState). s.phase) c.self.view_is ∙ over)
     ] in
     let top = ap (λ (s : FrameState). s.top) c.self.view_is in
