@@ -11,6 +11,7 @@ use Rattle.std.proofs.lemmas.Option.{slice_get_cases}
 use Rattle.text_words.specs.declared.names.Named.{Named}
 use Rattle.text_words.specs.declared.names.Named.TheVariants.{Reducer}
 use Rattle.text_words.specs.declared.value.Mem.{Mem}
+use Rattle.text_words.specs.declared.value.Version.{Version}
 use Rattle.text_words.specs.declared.value.Reducer.{Reducer as Reduction}
 use Rattle.model_reducers.specs.declared.monoid.Monoid.{Monoid}
 use Rattle.model_accesses.specs.Limits.{most_cells}
@@ -168,6 +169,12 @@ found_is_name known cells names meanings indexed name None e = tt
 found_is_name known cells names meanings indexed name (Some found) e = indexed.named_only name found (sym e)
 
 -- ---- the same for what the calls say of their results
+
+-- where nothing changed, the index is that of the same names
+pub indexed_still : (version : Version) (mems more : List Mem) (reducers given : List Reduction) (cells : ℕ) (names kept : List (List ℕ)) (meanings all : List Named)
+    → IsIndexed (record { version = version; mems = mems; reducers = reducers }) cells names meanings → more ≡ mems → given ≡ reducers → kept ≡ names → all ≡ meanings
+    → IsIndexed (record { version = version; mems = more; reducers = given }) cells kept all
+indexed_still version mems more reducers given cells names kept meanings all indexed e f g h = rw (e, f, g, h) indexed
 
 module _ (known : Known) (cells : ℕ) (names : List (List ℕ)) (meanings : List Named) (key : List ℕ) (indexed : IsIndexed known cells names meanings) (is_name : IsName key) (fresh : IsFresh known key) where
   pub memory_added : (at : ℕ) (length : Option ℕ) (mems : List Mem) (more : List (List ℕ)) (all : List Named) (mem : Mem) (meaning : Named)

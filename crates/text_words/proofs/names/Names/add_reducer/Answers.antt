@@ -1,9 +1,9 @@
-use Rattle.std.proofs.Common.{◌≡◌, ℕ, ◌∷◌, ◌++◌, [], List, length, ap, ◌∙◌, arith}
+use Rattle.std.proofs.Common.{◌≡◌, ℕ, ◌∷◌, ◌++◌, [], List, length, ap, refl, ◌∙◌, arith}
 use Rattle.text_words.specs.declared.names.Named.TheVariants.{Reducer}
 use Rattle.text_words.specs.declared.value.Reducer.{Reducer as Reduction}
 use Rattle.text_words.specs.Declarations.{reducer_at}
 use Rattle.text_words.specs.Values.{Known}
-use Rattle.text_words.proofs.IndexLemmas.{unnumbered, reducer_added}
+use Rattle.text_words.proofs.IndexLemmas.{unnumbered, indexed_still, reducer_added}
 use Rattle.text_words.proofs.names.Names.add_reducer.Goals as goal
 
 pub add-requires : goal.add-requires
@@ -12,6 +12,12 @@ add-requires g c =
     let known : Known = record { version = inside.version; mems = inside.mems.items; reducers = inside.reducers.items } in
     let same : c.as_bytes.result.now ≡ c.args.name.now = c.as_bytes.ensures.value in
     record { fresh = rw same (unnumbered known inside.cells inside.meanings.index inside.meanings.meanings.items c.self.invariant c.args.name.now (rw (← c.self.view_is) at c.requires.fresh)) }
+
+pub invariant_of-self-in_err-add : goal.invariant_of-self-in_err-add
+invariant_of-self-in_err-add g c =
+    let inside = c.self.inside in
+    indexed_still inside.version inside.mems.items inside.mems.items inside.reducers.items c.reserve.new.self.items inside.cells inside.meanings.index c.add.new.self.index
+    inside.meanings.meanings.items c.add.new.self.meanings.items c.self.invariant refl c.reserve.ensures.items c.in_err-add.ensures.err.0 c.in_err-add.ensures.err.1
 
 pub invariant_of-self-2 : goal.invariant_of-self-2
 invariant_of-self-2 g c =

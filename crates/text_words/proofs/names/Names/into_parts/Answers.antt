@@ -1,4 +1,5 @@
+use Rattle.std.proofs.Common.{sym}
 use Rattle.text_words.proofs.names.Names.into_parts.Goals as goal
 
 pub returns : goal.returns
-returns g c = cc
+returns g c = sym c.self.view_is
