@@ -19,13 +19,7 @@ use serde_json::Value;
 use std::alloc::{AllocError, Global};
 
 /// An object with where a line stands as a further member.
-fn with_line(
-    object: Object,
-    alloc: Global,
-    scene: &Scene<'_, '_>,
-    key: &str,
-    line: u32,
-) -> Object
+fn with_line(object: Object, alloc: Global, scene: &Scene<'_, '_>, key: &str, line: u32) -> Object
     ensures { Puts (made object) key.now (Some (site_told (setting_of scene.now).origin line)) (made result) }
 {
     object.with_made(key, line_value(alloc, scene, line))

@@ -152,12 +152,7 @@ pub(crate) fn site_in<'b>(scene: &'b Scene<'_, '_>, line: u32) -> Site<'b>
 }
 
 /// An object with bytes as a text, where there are some, as a further member.
-fn with_text_or_null(
-    object: Object,
-    alloc: Global,
-    key: &str,
-    text: Option<&[u8]>,
-) -> Object
+fn with_text_or_null(object: Object, alloc: Global, key: &str, text: Option<&[u8]>) -> Object
     ensures { Puts (made object) key.now (Some (text_or_null (option_map (λ text. text.now) text.entry))) (made result) }
 {
     object.with_made(key, text_or_null(alloc, text))

@@ -28,12 +28,7 @@ pub(crate) fn text_or_null(alloc: Global, text: Option<&[u8]>) -> Result<Value, 
 }
 
 /// An object with bytes as a text as a further member.
-pub(crate) fn with_bytes(
-    object: Object,
-    alloc: Global,
-    key: &str,
-    text: &[u8],
-) -> Object
+pub(crate) fn with_bytes(object: Object, alloc: Global, key: &str, text: &[u8]) -> Object
     ensures { Puts (made object) key.now (Some (text_told text.now)) (made result) }
 {
     object.with_made(key, text_value(alloc, text))

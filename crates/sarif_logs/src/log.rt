@@ -112,7 +112,10 @@ fn cut_note(alloc: Global, document: &Value) -> Result<Value, AllocError>
 {
     Object::new(alloc)
         .with_text("level", "warning")
-        .with_made("message", cut_message(alloc, count_at(document, "requests")))
+        .with_made(
+            "message",
+            cut_message(alloc, count_at(document, "requests")),
+        )
         .finish()
 }
 

@@ -108,7 +108,9 @@ fn region_value(
             .with("startColumn", Value::from(column))
             .with_made("snippet", text_value(alloc, code))
             .finish(),
-        (Some(code), None) => region.with_made("snippet", text_value(alloc, code)).finish(),
+        (Some(code), None) => region
+            .with_made("snippet", text_value(alloc, code))
+            .finish(),
         (None, Some(column)) => region.with("startColumn", Value::from(column)).finish(),
         (None, None) => region.finish(),
     }
@@ -244,7 +246,9 @@ fn location_value(alloc: Global, place: &Place<'_>) -> Result<Value, AllocError>
             let physical = physical_value(alloc, file, place);
             location.with_made("physicalLocation", physical).finish()
         }
-        None => location.with_made("message", place_message(alloc, place)).finish(),
+        None => location
+            .with_made("message", place_message(alloc, place))
+            .finish(),
     }
 }
 
