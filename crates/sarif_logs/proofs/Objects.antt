@@ -36,6 +36,12 @@ pub told_as : {E : Type 0} (value : Result Value E) (told : Data) → IfOk value
 told_as (Ok value) told is = is
 told_as (Err fault) told is = tt
 
+-- the same by another name
+pub told_by : {E : Type 0} (value : Result Value E) {told other : Data} → told ≡ other → IfOk value (λ made. view made ≡ told) →
+    IfSome (told_view value) (λ one. one ≡ other)
+told_by (Ok value) same is = is ∙ same
+told_by (Err fault) same is = tt
+
 ended : (now : Option Members) (members : Members) (told : Data) → IfSome now (λ some. some ≡ members) → option_map object now ≡ Some told → told ≡ object members
 ended None all told makes is = absurd (never is)
 ended (Some now) all told makes is = sym (some_is is) ∙ ap object makes
