@@ -15,6 +15,7 @@ use std::alloc::{AllocError, Global};
 pub struct Object {
     alloc: Global,
     members: Map<String, Value>,
+    /// Whether there was no memory for a member.
     is_short: bool,
 }
 
@@ -47,7 +48,7 @@ impl Object {
         }
     }
 
-    /// The object with a further member, where there was memory for its value.
+    /// The object with a further member. Where there was no memory for its value, [`Object::finish`] errors.
     pub fn with_made(self, key: &str, value: Result<Value, AllocError>) -> Object
         ensures { Puts (made self) key.now (told_view value) (made result) }
     {
