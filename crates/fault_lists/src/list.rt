@@ -67,12 +67,7 @@ impl<'a> Rest<'a> {
     }
 
     /// Whether a fault of what is left may follow from the lines that were left out.
-    fn follows(
-        &self,
-        alloc: Global,
-        source: &Source<'_, Global>,
-        fault: Fault,
-    ) -> Result<bool, AllocError>
+    fn follows(&self, alloc: Global, source: &Source<'_>, fault: Fault) -> Result<bool, AllocError>
         ensures { IfOk result (λ is_following. is_following ≡
             follows (map (λ (name : Bor (List ℕ)). name.now) self.now.lost.items) (line_in source.now fault.line) fault.why) }
     {
@@ -85,7 +80,7 @@ impl<'a> Rest<'a> {
         &mut self,
         alloc: Global,
         meant: Meant,
-        source: &Source<'a, Global>,
+        source: &Source<'a>,
         number: u32,
     ) -> Result<(), AllocError>
         ensures text { self.new.text ≡ self.old.text }
@@ -103,7 +98,7 @@ impl<'a> Rest<'a> {
         &mut self,
         alloc: Global,
         meant: Meant,
-        source: &Source<'a, Global>,
+        source: &Source<'a>,
         number: u32,
     ) -> Result<(), AllocError>
         ensures text { OnOk result (self.new.text.items ≡ blanked number self.old.text.items) }
@@ -120,7 +115,7 @@ impl<'a> Rest<'a> {
 fn leaves_doubt(
     alloc: Global,
     meant: Meant,
-    source: &Source<'_, Global>,
+    source: &Source<'_>,
     structure: Structure,
     fault: Fault,
 ) -> Result<bool, AllocError>
@@ -135,7 +130,7 @@ fn leaves_doubt(
 fn list_from<'a>(
     alloc: Global,
     meant: Meant,
-    source: &Source<'a, Global>,
+    source: &Source<'a>,
     structure: Structure,
     rest: &mut Rest<'a>,
     looks: usize,
@@ -220,7 +215,7 @@ fn list_behind(
     alloc: Global,
     meant: Meant,
     text: &[u8],
-    source: &Source<'_, Global>,
+    source: &Source<'_>,
     structure: Structure,
     first: Fault,
 ) -> Result<Others, AllocError>

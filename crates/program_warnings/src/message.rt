@@ -215,7 +215,7 @@ fn part_of(warning: Warning, line: &[u8]) -> Part {
 fn push_sign(
     text: &mut Vec<u8>,
     look: Look,
-    source: &Source<'_, Global>,
+    source: &Source<'_>,
     number: u32,
     span: Span,
 ) -> Result<(), AllocError>
@@ -233,7 +233,7 @@ fn push_warning(
     text: &mut Vec<u8>,
     look: Look,
     file: &str,
-    source: &Source<'_, Global>,
+    source: &Source<'_>,
     program: &Program<Global>,
     warning: Warning,
 ) -> Result<(), AllocError>
@@ -256,7 +256,7 @@ fn push_each(
     text: &mut Vec<u8>,
     look: Look,
     file: &str,
-    source: &Source<'_, Global>,
+    source: &Source<'_>,
     program: &Program<Global>,
     warnings: &[Warning],
 ) -> Result<(), AllocError>
@@ -287,7 +287,7 @@ fn first_told(
     alloc: Global,
     look: Look,
     file: &str,
-    source: &Source<'_, Global>,
+    source: &Source<'_>,
     program: &Program<Global>,
     warnings: &[Warning],
 ) -> Result<Vec<u8>, AllocError>

@@ -122,13 +122,7 @@ impl Account {
     }
 
     /// Quotes a line of a source, with this sign below it.
-    pub(crate) fn push_marked_line(
-        &mut self,
-        look: Look,
-        source: &Source<'_, Global>,
-        line: u32,
-        mark: u8,
-    )
+    pub(crate) fn push_marked_line(&mut self, look: Look, source: &Source<'_>, line: u32, mark: u8)
         ensures { Adds self.old (marked look source.now line mark) self.new }
     {
         self.is_short |= push_marked_line(&mut self.bytes, look, source, line, mark).is_err();

@@ -131,7 +131,7 @@ pub fn help_words(why: Illegality) -> &'static str
 }
 
 /// Adds a line of the trace in a sentence.
-fn push_line(account: &mut Account, source: &Source<'_, Global>, number: u32)
+fn push_line(account: &mut Account, source: &Source<'_>, number: u32)
     ensures { Adds account.old (told_line source.now number) account.new }
 {
     account.push_number("line ", u64::from(number));
@@ -141,24 +141,14 @@ fn push_line(account: &mut Account, source: &Source<'_, Global>, number: u32)
 }
 
 /// Adds the line of the request with this number.
-fn push_request(
-    account: &mut Account,
-    source: &Source<'_, Global>,
-    trace: &Trace<Global>,
-    number: usize,
-)
+fn push_request(account: &mut Account, source: &Source<'_>, trace: &Trace<Global>, number: usize)
     ensures { Adds account.old (told_request source.now (trace_contents trace.now).lines number) account.new }
 {
     push_line(account, source, at_of(request_line(trace, number)));
 }
 
 /// Adds what is so of the strand.
-fn push_reason(
-    account: &mut Account,
-    source: &Source<'_, Global>,
-    trace: &Trace<Global>,
-    why: Illegality,
-)
+fn push_reason(account: &mut Account, source: &Source<'_>, trace: &Trace<Global>, why: Illegality)
     ensures { Adds account.old (reason_text source.now (trace_contents trace.now).lines why) account.new }
 {
     match why {
@@ -198,7 +188,7 @@ fn push_title(account: &mut Account, look: Look, why: Illegality)
 fn push_note(
     account: &mut Account,
     look: Look,
-    source: &Source<'_, Global>,
+    source: &Source<'_>,
     trace: &Trace<Global>,
     number: usize,
     why: Illegality,
@@ -228,7 +218,7 @@ fn push_head(
     account: &mut Account,
     look: Look,
     file: &str,
-    source: &Source<'_, Global>,
+    source: &Source<'_>,
     line: u32,
     why: Illegality,
 )
@@ -245,7 +235,7 @@ fn push_illegal(
     account: &mut Account,
     look: Look,
     file: &str,
-    source: &Source<'_, Global>,
+    source: &Source<'_>,
     trace: &Trace<Global>,
     number: usize,
     why: Illegality,

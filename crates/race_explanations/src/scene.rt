@@ -18,7 +18,7 @@ pub enum Origin<'s, 'a> {
         /// The name of the program's file.
         file: &'s str,
         /// The lines of its text.
-        source: &'s Source<'a, Global>,
+        source: &'s Source<'a>,
         /// The program.
         program: &'s Program<Global>,
     },

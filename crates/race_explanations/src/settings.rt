@@ -20,7 +20,7 @@ use trace_text::Trace;
 pub fn program_scene<'s, 'a>(
     is_painted: bool,
     file: &'s str,
-    source: &'s Source<'a, Global>,
+    source: &'s Source<'a>,
     program: &'s Program<Global>,
     digest: &'s Digest,
 ) -> Scene<'s, 'a>

@@ -14,15 +14,15 @@ use crate::mistake::{Mistake, title_words};
 use crate::part::{Span, span_of};
 use crate::scene::{Scene, words_of};
 use crate::source::Source;
-use std::alloc::{AllocError, Allocator};
+use std::alloc::{AllocError, Global};
 use text_buffers::push_words;
 use text_words::Cause;
 
 /// Adds the faulty line, with a sign below a part of it.
-fn push_fault_quote<A: Allocator, B: Allocator>(
-    text: &mut Vec<u8, A>,
+fn push_fault_quote(
+    text: &mut Vec<u8>,
     look: Look,
-    source: &Source<'_, B>,
+    source: &Source<'_>,
     number: u32,
     span: Span,
 ) -> Result<(), AllocError>
@@ -34,11 +34,11 @@ fn push_fault_quote<A: Allocator, B: Allocator>(
 }
 
 /// Adds the mistake, the place, the faulty line with a sign below the part that is wrong, and what may help.
-fn push_fault<A: Allocator, B: Allocator>(
-    text: &mut Vec<u8, A>,
+fn push_fault(
+    text: &mut Vec<u8>,
     look: Look,
     file: &str,
-    source: &Source<'_, B>,
+    source: &Source<'_>,
     number: u32,
     mistake: Mistake,
     span: Span,
@@ -57,15 +57,15 @@ fn push_fault<A: Allocator, B: Allocator>(
 
 /// What is told of the text of a program or a trace that has a fault at this line: what is wrong, the line with a sign below the part of it that
 /// is wrong, and what may help, such as the name or the keyword that was meant.
-pub fn fault_message<A: Allocator + Copy>(
-    alloc: A,
+pub fn fault_message(
+    alloc: Global,
     is_painted: bool,
     file: &str,
     text: &[u8],
     number: u32,
     why: Cause,
     meant: Meant,
-) -> Result<Vec<u8, A>, AllocError>
+) -> Result<Vec<u8>, AllocError>
     ensures { IfOk result (λ told. TellsFault is_painted file.now (lines text.now) number why told.items) }
 {
     let source = Source::new(alloc, text)?;

@@ -14,7 +14,7 @@ use crate::near::Nearest;
 use crate::notes::Notes;
 use crate::part::Part;
 use crate::scene::{Scene, declared_at, first_words, open_at};
-use std::alloc::{AllocError, Allocator};
+use std::alloc::{AllocError, Global};
 
 /// What to do about a byte that no line may hold.
 fn byte_help(mistake: ByteMistake) -> &'static str {
@@ -63,7 +63,7 @@ fn limit_help(mistake: LimitMistake) -> &'static str {
 }
 
 /// Notes what a header has to be.
-fn note_header<A: Allocator>(notes: &mut Notes<A>, mistake: HeaderMistake, first: &str) {
+fn note_header(notes: &mut Notes, mistake: HeaderMistake, first: &str) {
     if matches!(mistake, HeaderMistake::Other) {
         let mut nearest = Nearest::to(first);
         nearest.offer("cilk");
@@ -75,12 +75,7 @@ fn note_header<A: Allocator>(notes: &mut Notes<A>, mistake: HeaderMistake, first
 }
 
 /// Notes what is known of a number that is none, or is out of range.
-fn note_number<A: Allocator>(
-    notes: &mut Notes<A>,
-    scene: &Scene<'_, '_>,
-    mistake: NumberMistake,
-    part: Part,
-) {
+fn note_number(notes: &mut Notes, scene: &Scene<'_, '_>, mistake: NumberMistake, part: Part) {
     match mistake {
         NumberMistake::Other => note_form(notes, scene),
         NumberMistake::Digits => {
@@ -92,7 +87,7 @@ fn note_number<A: Allocator>(
 }
 
 /// Notes what is open before a line, or behind the last one.
-fn note_open<A: Allocator>(notes: &mut Notes<A>, before: &[&[u8]]) {
+fn note_open(notes: &mut Notes, before: &[&[u8]]) {
     match open_at(before) {
         Some(place) => {
             let first = first_words(before[place]).0;
@@ -103,7 +98,7 @@ fn note_open<A: Allocator>(notes: &mut Notes<A>, before: &[&[u8]]) {
 }
 
 /// Notes the line with the first function or request.
-fn note_first<A: Allocator>(notes: &mut Notes<A>, scene: &Scene<'_, '_>) {
+fn note_first(notes: &mut Notes, scene: &Scene<'_, '_>) {
     let before = scene.before();
     let begun = before
         .iter()
@@ -134,11 +129,7 @@ fn nesting_help(mistake: NestingMistake) -> &'static str {
 }
 
 /// Notes what is known of a line that may not stand where it does.
-fn note_nesting<A: Allocator>(
-    notes: &mut Notes<A>,
-    scene: &Scene<'_, '_>,
-    mistake: NestingMistake,
-) {
+fn note_nesting(notes: &mut Notes, scene: &Scene<'_, '_>, mistake: NestingMistake) {
     match mistake {
         NestingMistake::Declaration | NestingMistake::TraceDeclaration => note_first(notes, scene),
         _ => note_open(notes, scene.before()),
@@ -147,7 +138,7 @@ fn note_nesting<A: Allocator>(
 }
 
 /// Notes a function that may have been meant to be `main`.
-fn note_main<A: Allocator>(notes: &mut Notes<A>, scene: &Scene<'_, '_>) {
+fn note_main(notes: &mut Notes, scene: &Scene<'_, '_>) {
     let mut nearest = Nearest::to("main");
     for line in scene.lines {
         let (first, second, _) = first_words(line);
@@ -162,7 +153,7 @@ fn note_main<A: Allocator>(notes: &mut Notes<A>, scene: &Scene<'_, '_>) {
 }
 
 /// Notes where a name was declared before.
-fn note_twice<A: Allocator>(notes: &mut Notes<A>, scene: &Scene<'_, '_>) {
+fn note_twice(notes: &mut Notes, scene: &Scene<'_, '_>) {
     let name = scene.word(1);
     if let Some(place) = declared_at(scene.before(), name) {
         notes.add_place("", name, " is declared at line ", place);
@@ -171,12 +162,12 @@ fn note_twice<A: Allocator>(notes: &mut Notes<A>, scene: &Scene<'_, '_>) {
 }
 
 /// What may help, a note a line.
-pub(crate) fn hint<A: Allocator>(
-    alloc: A,
+pub(crate) fn hint(
+    alloc: Global,
     look: Look,
     scene: &Scene<'_, '_>,
     found: Diagnosis,
-) -> Result<Vec<u8, A>, AllocError> {
+) -> Result<Vec<u8>, AllocError> {
     let mut notes = Notes::new(alloc, look);
     match found.mistake {
         Mistake::Byte(mistake) => notes.add_help(byte_help(mistake)),

@@ -7,10 +7,9 @@ use crate::notes::Notes;
 use crate::part::Part;
 use crate::scene::{Kind, Scene, declared_at, first_words, kind_of, named_at, register_of};
 use crate::shape::element;
-use std::alloc::Allocator;
 
 /// Notes what a name is declared as, and where.
-pub(crate) fn note_declared<A: Allocator>(notes: &mut Notes<A>, scene: &Scene<'_, '_>, name: &str) {
+pub(crate) fn note_declared(notes: &mut Notes, scene: &Scene<'_, '_>, name: &str) {
     let lines = scene.lines;
     let Some(place) = declared_at(lines, name) else {
         return;
@@ -25,7 +24,7 @@ pub(crate) fn note_declared<A: Allocator>(notes: &mut Notes<A>, scene: &Scene<'_
 }
 
 /// Notes what an array is, and which of its cells can be named.
-pub(crate) fn note_array<A: Allocator>(notes: &mut Notes<A>, scene: &Scene<'_, '_>, name: &str) {
+pub(crate) fn note_array(notes: &mut Notes, scene: &Scene<'_, '_>, name: &str) {
     note_declared(notes, scene, name);
     if let Some(Kind::Array(length)) = scene.kind(name)
         && let Ok(length) = length.parse::<u64>()
@@ -97,7 +96,7 @@ fn sort_help(sort: Sort, meant: Meant) -> &'static str {
 }
 
 /// Notes the name of a sort that was meant, or how one is declared.
-fn note_sort<A: Allocator>(notes: &mut Notes<A>, scene: &Scene<'_, '_>, sort: Sort, name: &str) {
+fn note_sort(notes: &mut Notes, scene: &Scene<'_, '_>, sort: Sort, name: &str) {
     note_declared(notes, scene, name);
     match nearest_name(scene, sort, name) {
         Some(other) if other != name => notes.add_meant(other),
@@ -106,7 +105,7 @@ fn note_sort<A: Allocator>(notes: &mut Notes<A>, scene: &Scene<'_, '_>, sort: So
 }
 
 /// Notes the register that was meant, or how one is assigned.
-fn note_register<A: Allocator>(notes: &mut Notes<A>, scene: &Scene<'_, '_>, name: &str) {
+fn note_register(notes: &mut Notes, scene: &Scene<'_, '_>, name: &str) {
     note_declared(notes, scene, name);
     match nearest_register(scene, name) {
         Some(other) if other != name => notes.add_meant(other),
@@ -115,7 +114,7 @@ fn note_register<A: Allocator>(notes: &mut Notes<A>, scene: &Scene<'_, '_>, name
 }
 
 /// Notes how the value of a cell or a reducer comes into a register.
-fn note_read<A: Allocator>(notes: &mut Notes<A>, scene: &Scene<'_, '_>, keyword: &str, name: &str) {
+fn note_read(notes: &mut Notes, scene: &Scene<'_, '_>, keyword: &str, name: &str) {
     note_declared(notes, scene, name);
     notes.begin("help: ");
     notes.add_three(keyword, " it into a register first: `", keyword);
@@ -137,14 +136,14 @@ fn is_turned(scene: &Scene<'_, '_>) -> bool {
 }
 
 /// Notes how a `read` is written whose two words are turned.
-fn note_turned<A: Allocator>(notes: &mut Notes<A>, scene: &Scene<'_, '_>) {
+fn note_turned(notes: &mut Notes, scene: &Scene<'_, '_>) {
     notes.begin("help: the register comes first: `read ");
     notes.add_three(scene.word(2), " ", scene.word(1));
     notes.add_words("`\n");
 }
 
 /// Notes the register that stands where a cell is wanted.
-fn note_instead<A: Allocator>(notes: &mut Notes<A>, scene: &Scene<'_, '_>, name: &str) {
+fn note_instead(notes: &mut Notes, scene: &Scene<'_, '_>, name: &str) {
     let function = scene.function();
     let begin = scene.before().len().saturating_sub(function.len());
     if let Some(place) = named_at(function, name) {
@@ -167,7 +166,7 @@ fn name_in(word: &str) -> &str {
 }
 
 /// Notes what to do where a single cell has an index.
-fn note_no_array<A: Allocator>(notes: &mut Notes<A>, scene: &Scene<'_, '_>, name: &str) {
+fn note_no_array(notes: &mut Notes, scene: &Scene<'_, '_>, name: &str) {
     note_declared(notes, scene, name);
     notes.add_help_with(
         "write `",
@@ -177,14 +176,14 @@ fn note_no_array<A: Allocator>(notes: &mut Notes<A>, scene: &Scene<'_, '_>, name
 }
 
 /// Notes what a name is declared as, and how such a thing is used.
-fn note_use<A: Allocator>(notes: &mut Notes<A>, scene: &Scene<'_, '_>, name: &str, help: &str) {
+fn note_use(notes: &mut Notes, scene: &Scene<'_, '_>, name: &str, help: &str) {
     note_declared(notes, scene, name);
     notes.add_help(help);
 }
 
 /// Notes what is known of a name that is not declared as what its place wants.
-pub(crate) fn note_unknown<A: Allocator>(
-    notes: &mut Notes<A>,
+pub(crate) fn note_unknown(
+    notes: &mut Notes,
     scene: &Scene<'_, '_>,
     mistake: UnknownMistake,
     part: Part,

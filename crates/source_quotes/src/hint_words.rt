@@ -9,10 +9,9 @@ use crate::notes::Notes;
 use crate::part::Part;
 use crate::scene::Scene;
 use crate::shape::element;
-use std::alloc::Allocator;
 
 /// Notes the form of the lines with the same first word.
-pub(crate) fn note_form<A: Allocator>(notes: &mut Notes<A>, scene: &Scene<'_, '_>) {
+pub(crate) fn note_form(notes: &mut Notes, scene: &Scene<'_, '_>) {
     if let Some(form) = form_of(scene.meant, scene.word(0)) {
         notes.add_help_with("the form of this line is `", form.text, "`\n");
     }
@@ -27,7 +26,7 @@ pub(crate) fn wanted_at(scene: &Scene<'_, '_>, part: Part) -> Option<Wanted> {
 }
 
 /// Notes the range of a number in its place.
-pub(crate) fn note_range<A: Allocator>(notes: &mut Notes<A>, wanted: Option<Wanted>) {
+pub(crate) fn note_range(notes: &mut Notes, wanted: Option<Wanted>) {
     notes.add_help(match wanted {
         Some(Wanted::Length) => "write a length from 1 to 1000000",
         Some(Wanted::Strand) => "write the number of a strand, from 0 to 4294967295",
@@ -58,7 +57,7 @@ fn firsts_help(meant: Meant) -> &'static str {
 }
 
 /// Notes the first word that was meant, in this kind of text or else in the other, or those that there are.
-fn note_first<A: Allocator>(notes: &mut Notes<A>, meant: Meant, word: &str) {
+fn note_first(notes: &mut Notes, meant: Meant, word: &str) {
     if let Some(first) = nearest_first(meant, word) {
         notes.add_meant(first);
     } else if let Some(first) = nearest_first(meant.other(), word) {
@@ -73,7 +72,7 @@ fn note_first<A: Allocator>(notes: &mut Notes<A>, meant: Meant, word: &str) {
 }
 
 /// Notes how what stands before a `=` is assigned.
-fn note_assignment<A: Allocator>(notes: &mut Notes<A>, scene: &Scene<'_, '_>) {
+fn note_assignment(notes: &mut Notes, scene: &Scene<'_, '_>) {
     let (target, value) = (scene.word(0), scene.word(2));
     notes.begin("help: assign a register by `let ");
     notes.add_three(target, " = ", value);
@@ -82,7 +81,7 @@ fn note_assignment<A: Allocator>(notes: &mut Notes<A>, scene: &Scene<'_, '_>) {
 }
 
 /// Notes the monoid that was meant, or those that there are.
-fn note_monoid<A: Allocator>(notes: &mut Notes<A>, word: &str) {
+fn note_monoid(notes: &mut Notes, word: &str) {
     let mut nearest = Nearest::to(word);
     for monoid in ["sum", "min", "max", "last", "digits"] {
         nearest.offer(monoid);
@@ -94,7 +93,7 @@ fn note_monoid<A: Allocator>(notes: &mut Notes<A>, word: &str) {
 }
 
 /// Notes how a `let` of several operators is written: `let r = a + b + c` as two.
-fn note_chain<A: Allocator>(notes: &mut Notes<A>, scene: &Scene<'_, '_>) {
+fn note_chain(notes: &mut Notes, scene: &Scene<'_, '_>) {
     match scene.words {
         [_, target, _, left, sign, right, next, last, ..] => {
             notes.begin("help: write a line for each: `");
@@ -108,7 +107,7 @@ fn note_chain<A: Allocator>(notes: &mut Notes<A>, scene: &Scene<'_, '_>) {
 }
 
 /// Notes what is done in place of what is too much.
-fn note_extra<A: Allocator>(notes: &mut Notes<A>, scene: &Scene<'_, '_>, word: &str) {
+fn note_extra(notes: &mut Notes, scene: &Scene<'_, '_>, word: &str) {
     match scene.words {
         ["if", left, sign, right, ..] => {
             notes.begin("help: assign the condition first: `");
@@ -124,12 +123,7 @@ fn note_extra<A: Allocator>(notes: &mut Notes<A>, scene: &Scene<'_, '_>, word: &
 }
 
 /// Notes what a number with a minus sign is written as.
-fn note_negative<A: Allocator>(
-    notes: &mut Notes<A>,
-    scene: &Scene<'_, '_>,
-    wanted: Option<Wanted>,
-    word: &str,
-) {
+fn note_negative(notes: &mut Notes, scene: &Scene<'_, '_>, wanted: Option<Wanted>, word: &str) {
     match (scene.meant, wanted, word.strip_prefix('-')) {
         (Meant::Program, Some(Wanted::Operand), Some(digits)) => {
             notes.add_note("numbers are modulo 18446744073709551616");
@@ -152,7 +146,7 @@ fn length_in(behind: &str) -> &str {
 }
 
 /// Notes how an array is declared that was declared as in C.
-fn note_declaration<A: Allocator>(notes: &mut Notes<A>, word: &str) {
+fn note_declaration(notes: &mut Notes, word: &str) {
     match word.split_once('[') {
         Some((name, behind)) => {
             notes.begin("help: write `mem ");
@@ -164,7 +158,7 @@ fn note_declaration<A: Allocator>(notes: &mut Notes<A>, word: &str) {
 }
 
 /// Notes how a comparison is written that is none of the operators.
-fn note_operator<A: Allocator>(notes: &mut Notes<A>, scene: &Scene<'_, '_>) {
+fn note_operator(notes: &mut Notes, scene: &Scene<'_, '_>) {
     match scene.words {
         ["let", target, _, left, ">", right] => {
             notes.begin("help: swap the two: `");
@@ -176,7 +170,7 @@ fn note_operator<A: Allocator>(notes: &mut Notes<A>, scene: &Scene<'_, '_>) {
 }
 
 /// Notes a statement or a request in a text of the other kind.
-fn note_other_kind<A: Allocator>(notes: &mut Notes<A>, scene: &Scene<'_, '_>) {
+fn note_other_kind(notes: &mut Notes, scene: &Scene<'_, '_>) {
     if let Some(form) = form_of(scene.meant, scene.word(0)) {
         notes.begin(match scene.meant {
             Meant::Program => "the form of this line in a program is ",
@@ -193,7 +187,7 @@ fn note_other_kind<A: Allocator>(notes: &mut Notes<A>, scene: &Scene<'_, '_>) {
 }
 
 /// Notes which cells the array has whose index is wrong.
-pub(crate) fn note_element<A: Allocator>(notes: &mut Notes<A>, scene: &Scene<'_, '_>, part: Part) {
+pub(crate) fn note_element(notes: &mut Notes, scene: &Scene<'_, '_>, part: Part) {
     if let Part::Index(at) = part
         && let Some((name, _)) = element(scene.word(at))
     {
@@ -217,26 +211,26 @@ fn word_help(mistake: WordMistake) -> Option<&'static str> {
 }
 
 /// Notes how a name is written that has upper-case letters.
-fn note_upper_case<A: Allocator>(notes: &mut Notes<A>, word: &str) {
+fn note_upper_case(notes: &mut Notes, word: &str) {
     notes.begin("help: write `");
     notes.add_lowercase(word);
     notes.add_words("`\n");
 }
 
 /// Notes how long a name is that is too long.
-fn note_long<A: Allocator>(notes: &mut Notes<A>, word: &str) {
+fn note_long(notes: &mut Notes, word: &str) {
     notes.begin("help: shorten it from ");
     notes.add_number(word.len() as u64, " to 32 bytes\n");
 }
 
 /// Notes what `ok` is.
-fn note_ok<A: Allocator>(notes: &mut Notes<A>) {
+fn note_ok(notes: &mut Notes) {
     notes.add_note("each access sets `ok`: to 1 where it is granted, to 0 where it is refused");
     notes.add_help("name another register");
 }
 
 /// Notes which numbers may stand in the place of a word that is none.
-fn note_no_number<A: Allocator>(notes: &mut Notes<A>, scene: &Scene<'_, '_>, part: Part) {
+fn note_no_number(notes: &mut Notes, scene: &Scene<'_, '_>, part: Part) {
     match part {
         Part::Index(_) => note_element(notes, scene, part),
         _ => {
@@ -247,12 +241,7 @@ fn note_no_number<A: Allocator>(notes: &mut Notes<A>, scene: &Scene<'_, '_>, par
 }
 
 /// Notes what is known of a word of another shape than its place wants.
-fn note_shape<A: Allocator>(
-    notes: &mut Notes<A>,
-    scene: &Scene<'_, '_>,
-    mistake: WordMistake,
-    part: Part,
-) {
+fn note_shape(notes: &mut Notes, scene: &Scene<'_, '_>, mistake: WordMistake, part: Part) {
     let word = scene.culprit(part);
     match mistake {
         WordMistake::UpperCase => note_upper_case(notes, word),
@@ -285,8 +274,8 @@ fn note_shape<A: Allocator>(
 }
 
 /// Notes what is known of a word of another shape than its place wants, or of words that are missing or too much.
-pub(crate) fn note_word<A: Allocator>(
-    notes: &mut Notes<A>,
+pub(crate) fn note_word(
+    notes: &mut Notes,
     scene: &Scene<'_, '_>,
     mistake: WordMistake,
     part: Part,

@@ -10,7 +10,7 @@ ghost use Rattle.source_quotes.specs.Quotes.{gutter, quote, sign, marked, place,
 use crate::part::Span;
 use crate::source::Source;
 use itoa::Buffer;
-use std::alloc::{AllocError, Allocator};
+use std::alloc::AllocError;
 use text_buffers::{push_number, push_words};
 
 /// What words are painted in, on a terminal.
@@ -37,7 +37,7 @@ pub struct Look {
 
 impl Look {
     /// The look of quotes from a source.
-    pub fn of<A: Allocator>(is_painted: bool, source: &Source<'_, A>) -> Look
+    pub fn of(is_painted: bool, source: &Source<'_>) -> Look
         ensures { result ≡ look_of is_painted source.now }
     {
         Look {
@@ -70,8 +70,8 @@ fn paint_end(look: Look) -> &'static str
 }
 
 /// Adds words behind others.
-pub(crate) fn push_three<A: Allocator>(
-    text: &mut Vec<u8, A>,
+pub(crate) fn push_three(
+    text: &mut Vec<u8>,
     first: &str,
     second: &str,
     third: &str,
@@ -84,8 +84,8 @@ pub(crate) fn push_three<A: Allocator>(
 }
 
 /// Adds words in a paint.
-pub fn push_painted<A: Allocator>(
-    text: &mut Vec<u8, A>,
+pub fn push_painted(
+    text: &mut Vec<u8>,
     look: Look,
     paint: Paint,
     words: &str,
@@ -96,11 +96,7 @@ pub fn push_painted<A: Allocator>(
 }
 
 /// Adds a byte so many times.
-fn push_repeated<A: Allocator>(
-    text: &mut Vec<u8, A>,
-    count: usize,
-    byte: u8,
-) -> Result<(), AllocError>
+fn push_repeated(text: &mut Vec<u8>, count: usize, byte: u8) -> Result<(), AllocError>
     ensures { OnOk result (text.new.items ≡ text.old.items ++ replicate count byte) }
 {
     for _ in 0..count {
@@ -110,11 +106,7 @@ fn push_repeated<A: Allocator>(
 }
 
 /// Adds this sign at the left of what is no line of the source.
-pub fn push_left_sign<A: Allocator>(
-    text: &mut Vec<u8, A>,
-    look: Look,
-    sign: &str,
-) -> Result<(), AllocError>
+pub fn push_left_sign(text: &mut Vec<u8>, look: Look, sign: &str) -> Result<(), AllocError>
     ensures { OnOk result (text.new.items ≡ text.old.items ++ replicate look.width 32 ++ painted look Blue sign.now) }
 {
     push_repeated(text, look.width, b' ')?;
@@ -122,14 +114,14 @@ pub fn push_left_sign<A: Allocator>(
 }
 
 /// Adds the left of what is no line of the source.
-pub fn push_gutter<A: Allocator>(text: &mut Vec<u8, A>, look: Look) -> Result<(), AllocError>
+pub fn push_gutter(text: &mut Vec<u8>, look: Look) -> Result<(), AllocError>
     ensures { OnOk result (text.new.items ≡ text.old.items ++ gutter look) }
 {
     push_left_sign(text, look, " |")
 }
 
 /// Adds what stands before a note beside the source.
-pub fn push_note_sign<A: Allocator>(text: &mut Vec<u8, A>, look: Look) -> Result<(), AllocError>
+pub fn push_note_sign(text: &mut Vec<u8>, look: Look) -> Result<(), AllocError>
     ensures { OnOk result (text.new.items ≡ text.old.items ++ noted look) }
 {
     push_left_sign(text, look, " =")?;
@@ -137,10 +129,10 @@ pub fn push_note_sign<A: Allocator>(text: &mut Vec<u8, A>, look: Look) -> Result
 }
 
 /// Adds the line of the source with this number.
-pub fn push_quote<A: Allocator, B: Allocator>(
-    text: &mut Vec<u8, A>,
+pub fn push_quote(
+    text: &mut Vec<u8>,
     look: Look,
-    source: &Source<'_, B>,
+    source: &Source<'_>,
     number: u32,
 ) -> Result<(), AllocError>
     ensures { OnOk result (text.new.items ≡ text.old.items ++ quote look source.now number) }
@@ -195,12 +187,7 @@ pub fn statement_of(line: &[u8]) -> &[u8]
 }
 
 /// Adds, below a line, this sign under its statement. What the sign says may follow.
-pub fn push_sign<A: Allocator>(
-    text: &mut Vec<u8, A>,
-    look: Look,
-    line: &[u8],
-    mark: u8,
-) -> Result<(), AllocError>
+pub fn push_sign(text: &mut Vec<u8>, look: Look, line: &[u8], mark: u8) -> Result<(), AllocError>
     ensures { OnOk result (text.new.items ≡ text.old.items ++ sign look line.now mark) }
 {
     let (front, statement) = line.split_at(blanks_of(line));
@@ -213,10 +200,10 @@ pub fn push_sign<A: Allocator>(
 }
 
 /// Adds the line of the source with this number, and this sign below its statement.
-pub fn push_marked_line<A: Allocator, B: Allocator>(
-    text: &mut Vec<u8, A>,
+pub fn push_marked_line(
+    text: &mut Vec<u8>,
     look: Look,
-    source: &Source<'_, B>,
+    source: &Source<'_>,
     number: u32,
     mark: u8,
 ) -> Result<(), AllocError>
@@ -227,7 +214,7 @@ pub fn push_marked_line<A: Allocator, B: Allocator>(
 }
 
 /// Adds what stands below these bytes: their tabs, and a space for each other byte.
-fn push_indent<A: Allocator>(text: &mut Vec<u8, A>, front: &[u8]) -> Result<(), AllocError>
+fn push_indent(text: &mut Vec<u8>, front: &[u8]) -> Result<(), AllocError>
     ensures { OnOk result (text.new.items ≡ text.old.items ++ indent front.now) }
 {
     for byte in front {
@@ -237,8 +224,8 @@ fn push_indent<A: Allocator>(text: &mut Vec<u8, A>, front: &[u8]) -> Result<(), 
 }
 
 /// Adds, below a line, this sign in a paint under a part of it.
-pub fn push_sign_below<A: Allocator>(
-    text: &mut Vec<u8, A>,
+pub fn push_sign_below(
+    text: &mut Vec<u8>,
     look: Look,
     paint: Paint,
     line: &[u8],
@@ -258,11 +245,7 @@ pub fn push_sign_below<A: Allocator>(
 }
 
 /// Adds how many there are, and of what, which is one word.
-pub fn push_count<A: Allocator>(
-    text: &mut Vec<u8, A>,
-    count: usize,
-    word: &str,
-) -> Result<(), AllocError>
+pub fn push_count(text: &mut Vec<u8>, count: usize, word: &str) -> Result<(), AllocError>
     ensures { OnOk result (text.new.items ≡ text.old.items ++ counted count word.now) }
 {
     let plural = if count == 1 { "" } else { "s" };
@@ -271,12 +254,7 @@ pub fn push_count<A: Allocator>(
 }
 
 /// Adds where in a file it is: its name and a line, and an empty line at the left.
-pub fn push_place<A: Allocator>(
-    text: &mut Vec<u8, A>,
-    look: Look,
-    file: &str,
-    number: u32,
-) -> Result<(), AllocError>
+pub fn push_place(text: &mut Vec<u8>, look: Look, file: &str, number: u32) -> Result<(), AllocError>
     ensures { OnOk result (text.new.items ≡ text.old.items ++ place look file.now number) }
 {
     push_left_sign(text, look, "-->")?;

@@ -1,19 +1,19 @@
 //! Notes below a quote.
 
 use crate::look::{Look, push_note_sign, push_three};
-use std::alloc::{AllocError, Allocator};
+use std::alloc::{AllocError, Global};
 use text_buffers::{push_number, push_words};
 
 /// Notes, a line each. That there was no memory for a part is noted, and asked for once, at the end.
-pub(crate) struct Notes<A: Allocator> {
-    text: Vec<u8, A>,
+pub(crate) struct Notes {
+    text: Vec<u8>,
     look: Look,
     is_short: bool,
 }
 
-impl<A: Allocator> Notes<A> {
+impl Notes {
     /// No note.
-    pub(crate) fn new(alloc: A, look: Look) -> Notes<A> {
+    pub(crate) fn new(alloc: Global, look: Look) -> Notes {
         Notes {
             text: Vec::new(alloc),
             look,
@@ -107,7 +107,7 @@ impl<A: Allocator> Notes<A> {
     }
 
     /// All notes. Errors where there was no memory for a part.
-    pub(crate) fn end(self) -> Result<Vec<u8, A>, AllocError> {
+    pub(crate) fn end(self) -> Result<Vec<u8>, AllocError> {
         let Notes {
             text,
             look: _,

@@ -4,7 +4,7 @@ ghost use Rattle.std.specs.Prelude.{◌<◌, length, IfSome};
 
 use crate::meant::Meant;
 use crate::part::Part;
-use std::alloc::{AllocError, Allocator};
+use std::alloc::{AllocError, Global};
 use text_words::{Words, as_text};
 
 /// The first three words of a line; where there are fewer, nothing in their place.
@@ -19,10 +19,7 @@ pub(crate) fn first_words<'a>(line: &'a [u8]) -> (&'a str, &'a str, &'a str) {
 }
 
 /// The words of a line, and none where it has a byte that no line may hold.
-pub(crate) fn words_of<'a, A: Allocator>(
-    alloc: A,
-    line: &'a [u8],
-) -> Result<Vec<&'a str, A>, AllocError> {
+pub(crate) fn words_of<'a>(alloc: Global, line: &'a [u8]) -> Result<Vec<&'a str>, AllocError> {
     let mut taken = Vec::new(alloc);
     if let Some(text) = as_text(line) {
         let mut words = Words::of_line(text);

@@ -5,17 +5,17 @@ ghost use Rattle.text_words.specs.Text.{lines};
 ghost use Rattle.source_quotes.specs.Lines.{line_in};
 ghost use denote.Ref.{Bor};
 
-use std::alloc::{AllocError, Allocator};
+use std::alloc::{AllocError, Global};
 use std::marker::Model;
 use text_words::{split_line, without_return};
 
 /// A text by its lines, each without what ends it. Contracts see the list of the lines.
 #[derive(Drop)]
-pub struct Source<'a, A: Allocator> {
-    lines: Vec<&'a [u8], A>,
+pub struct Source<'a> {
+    lines: Vec<&'a [u8]>,
 }
 
-impl<'a, A: Allocator> Model for Source<'a, A> {
+impl<'a> Model for Source<'a> {
     ghost use Rattle.std.specs.Prelude.{ℕ, List, map};
     ghost use denote.Ref.{Bor};
 
@@ -24,9 +24,9 @@ impl<'a, A: Allocator> Model for Source<'a, A> {
     ghost view = { λ source. map (λ (line : Bor (List ℕ)). line.now) source.lines.items };
 }
 
-impl<'a, A: Allocator> Source<'a, A> {
+impl<'a> Source<'a> {
     /// The lines of a text. Errors where there is no memory.
-    pub fn new(alloc: A, text: &'a [u8]) -> Result<Source<'a, A>, AllocError>
+    pub fn new(alloc: Global, text: &'a [u8]) -> Result<Source<'a>, AllocError>
         ensures { IfOk result (λ source. source ≡ lines text.now) }
     {
         let mut lines = Vec::new(alloc);

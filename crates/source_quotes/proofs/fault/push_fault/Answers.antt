@@ -3,4 +3,4 @@ use Rattle.source_quotes.proofs.Pushed.{fault_pushed}
 use Rattle.source_quotes.proofs.fault.push_fault.Goals as goal
 
 pub returns : goal.returns
-returns g c = search (rules, fault_pushed)
+returns c = search (rules, fault_pushed)

@@ -3,4 +3,4 @@ use Rattle.source_quotes.proofs.Pushed.{place_pushed}
 use Rattle.source_quotes.proofs.look.push_place.Goals as goal
 
 pub returns : goal.returns
-returns g c = search (rules, place_pushed)
+returns c = search (rules, place_pushed)

@@ -3,4 +3,4 @@ use Rattle.source_quotes.proofs.Pushed.{quote_pushed}
 use Rattle.source_quotes.proofs.look.push_quote.Goals as goal
 
 pub returns : goal.returns
-returns g c = search (rules, quote_pushed)
+returns c = search (rules, quote_pushed)

@@ -3,4 +3,4 @@ use Rattle.source_quotes.proofs.look.push_repeated.Given as goal
 
 -- so many were added
 abbrev pub invariant-loop : goal.invariant-loop
-invariant-loop g l = l.text.items ≡ l.initial.text.items ++ replicate l.counter l.byte
+invariant-loop l = l.text.items ≡ l.initial.text.items ++ replicate l.counter l.byte

@@ -2,4 +2,4 @@ use Rattle.std.proofs.Common.{length}
 use Rattle.source_quotes.proofs.scene.words_of.Given as goal
 
 abbrev pub decreases-loop-word : goal.decreases-loop-word
-decreases-loop-word g l = length l.words
+decreases-loop-word l = length l.words
