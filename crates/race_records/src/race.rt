@@ -68,12 +68,7 @@ pub(crate) fn kind_word(alloc: Global, reason: Reason) -> Result<String, AllocEr
     ensures { IfOk result (λ kind. string_bytes kind ≡ kind_word reason) }
 {
     match reason {
-        Reason::Race { earlier, refused } => {
-            let mut kind = String::from_str(alloc, word(earlier))?;
-            kind.push_str("-")?;
-            kind.push_str(word(refused))?;
-            Ok(kind)
-        }
+        Reason::Race { earlier, refused } => { [word(earlier), "-", word(refused)].concat(alloc) }
         Reason::ViewRead => String::from_str(alloc, "view-read"),
         Reason::Unset => String::from_str(alloc, "unset"),
     }

@@ -174,7 +174,7 @@ fn site_value(alloc: Global, site: Site<'_>) -> Result<Value, AllocError>
 pub(crate) fn file_line_value<'b>(
     alloc: Global,
     file: &'b str,
-    source: &'b Source<'_, Global>,
+    source: &'b Source<'_>,
     line: u32,
 ) -> Result<Value, AllocError>
     ensures { IfOk result (λ value. view value ≡ parts_told (line_of_file file.now source.now line)) }

@@ -42,13 +42,7 @@ fn cause_word(why: Cause) -> &'static str
 }
 
 /// A line of a file, with what a person is told of it.
-fn quote_line(
-    alloc: Global,
-    file: &str,
-    source: &Source<'_, Global>,
-    line: u32,
-    rendered: &[u8],
-) -> Object
+fn quote_line(alloc: Global, file: &str, source: &Source<'_>, line: u32, rendered: &[u8]) -> Object
     ensures { Makes result (line_members file.now source.now line rendered.now) }
 {
     let object = with_bytes(Object::new(alloc), alloc, "code", source.line(line));
@@ -60,7 +54,7 @@ fn quote_line(
 fn rendered_value(
     alloc: Global,
     file: &str,
-    source: &Source<'_, Global>,
+    source: &Source<'_>,
     fault: Fault,
     rendered: &[u8],
 ) -> Result<Value, AllocError>
@@ -76,7 +70,7 @@ fn fault_value(
     alloc: Global,
     file: &str,
     text: &[u8],
-    source: &Source<'_, Global>,
+    source: &Source<'_>,
     meant: Meant,
     fault: Fault,
 ) -> Result<Value, AllocError>
@@ -93,7 +87,7 @@ fn push_faults(
     values: &mut Vec<Value>,
     file: &str,
     text: &[u8],
-    source: &Source<'_, Global>,
+    source: &Source<'_>,
     meant: Meant,
     faults: &[Fault],
 ) -> Result<(), AllocError>
@@ -153,7 +147,7 @@ pub fn faults_record(
 fn request_value(
     alloc: Global,
     file: &str,
-    source: &Source<'_, Global>,
+    source: &Source<'_>,
     line: Option<TraceLine>,
     number: usize,
     why: Illegality,

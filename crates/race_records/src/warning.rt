@@ -68,7 +68,7 @@ fn message_value(
 fn warning_value(
     alloc: Global,
     file: &str,
-    source: &Source<'_, Global>,
+    source: &Source<'_>,
     program: &Program<Global>,
     warning: Warning,
 ) -> Result<Value, AllocError>
@@ -86,7 +86,7 @@ fn warning_value(
 fn warnings_value(
     alloc: Global,
     file: &str,
-    source: &Source<'_, Global>,
+    source: &Source<'_>,
     program: &Program<Global>,
     warnings: &[Warning],
 ) -> Result<Value, AllocError>
@@ -114,7 +114,7 @@ pub(crate) fn none_warned(alloc: Global) -> Warned
 fn warned_by(
     alloc: Global,
     file: &str,
-    source: &Source<'_, Global>,
+    source: &Source<'_>,
     program: &Program<Global>,
     warnings: &[Warning],
 ) -> Result<Warned, AllocError>
@@ -133,7 +133,7 @@ fn warned_by(
 pub(crate) fn warned_in(
     alloc: Global,
     file: &str,
-    source: &Source<'_, Global>,
+    source: &Source<'_>,
     program: &Program<Global>,
     wraps: &Wraps,
 ) -> Result<Warned, AllocError>

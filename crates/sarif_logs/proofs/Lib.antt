@@ -1,3 +1,4 @@
+mod Joining
 mod Listing
 mod Relating
 pub mod Objects

@@ -1,5 +1,5 @@
 -- The items of a list of values.
-use Rattle.std.proofs.Common.{◌≡◌, ℕ, ◌+◌, ◌<◌, List, [], ◌∷◌, ◌++◌, length, take, get_or, map, Some, refl, sym, ap, ap₂, ◌∙◌, Bor}
+use Rattle.std.proofs.Common.{◌≡◌, ℕ, ◌+◌, ◌<◌, List, [], ◌∷◌, ◌++◌, length, take, get_or, map, Some, refl, sym, ap, ap₂, ◌∙◌, append_assoc, Bor}
 use Rattle.std.proofs.lemmas.List.{take_more, map-append}
 use Rattle.std.specs.Prelude.{Option, option_map}
 use Rattle.std.specs.Global.{Vec}
@@ -19,12 +19,14 @@ items_found found list items all is named same =
     ap (map view) same ∙ (sym (listed_items (map view list.now.items)) ∙
     ap all_listed (sym (ap (option_map (λ (one : Bor (Vec Value)). items_view one.now.items)) is) ∙ named))
 
--- one value more, told by a function of what it is of
-pub result_more : (told : Data → Data) (values : List Value) (index : ℕ) (d : Value) (old new : List Value) (value : Value) → index < length values →
-    map view old ≡ map told (map view (take index values)) → view value ≡ told (view (get_or values index d)) → new ≡ old ++ value ∷ [] →
-    map view new ≡ map told (map view (take (index + 1) values))
-result_more told values index d old new value below so_far one is =
+-- one value more, told by a function of what it is of, behind others
+pub result_more : (told : Data → Data) (front : List Data) (values : List Value) (index : ℕ) (d : Value) (old new : List Value) (value : Value) →
+    index < length values → map view old ≡ front ++ map told (map view (take index values)) → view value ≡ told (view (get_or values index d)) →
+    new ≡ old ++ value ∷ [] → map view new ≡ front ++ map told (map view (take (index + 1) values))
+result_more told front values index d old new value below so_far one is =
     let next = get_or values index d in
-    ap (map view) is ∙ (map-append view old (value ∷ []) ∙ (ap₂ (λ (front : List Data) (last : Data). front ++ last ∷ []) so_far one ∙
-    sym (ap (λ (some : List Value). map told (map view some)) (take_more values index d below) ∙
-    (ap (map told) (map-append view (take index values) (next ∷ [])) ∙ map-append told (map view (take index values)) (view next ∷ [])))))
+    let before = map told (map view (take index values)) in
+    ap (map view) is ∙ (map-append view old (value ∷ []) ∙ (ap₂ (λ (some : List Data) (last : Data). some ++ last ∷ []) so_far one ∙
+    (append_assoc front before (told (view next) ∷ []) ∙ ap (λ (all : List Data). front ++ all)
+    (sym (ap (λ (some : List Value). map told (map view some)) (take_more values index d below) ∙
+    (ap (map told) (map-append view (take index values) (next ∷ [])) ∙ map-append told (map view (take index values)) (view next ∷ [])))))))

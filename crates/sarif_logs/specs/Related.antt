@@ -47,7 +47,10 @@ with_accesses race related =
     with_links (codes "the earlier " ++ (access_at (codes "witness") race).word) (access_at (codes "witness") race).within
     (with_links (codes "this " ++ (access_at (codes "refused") race).word) (access_at (codes "refused") race).within related)
 
-abbrev pub related_of : Data → List Data
-related_of race =
+abbrev pub with_all : Data → List Data → List Data
+with_all race related =
     with_accesses race (with_outstanding (object_at (codes "outstanding") race) (with_parting (object_at (codes "parting") race)
-    (with_witness (object_at (codes "witness") race) [])))
+    (with_witness (object_at (codes "witness") race) related)))
+
+abbrev pub related_of : Data → List Data
+related_of race = with_all race []

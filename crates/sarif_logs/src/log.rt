@@ -43,23 +43,19 @@ fn finding_result(alloc: Global, finding: Finding, told: &Value) -> Result<Value
     }
 }
 
-/// The results of findings.
-fn finding_results(alloc: Global, finding: Finding, all: &[Value]) -> Result<Vec<Value>, AllocError>
-    ensures { IfOk result (λ results. map view results.items ≡ map (finding_result finding) (map view all.now)) }
+/// Adds the results of findings.
+fn push_findings(
+    alloc: Global,
+    results: &mut Vec<Value>,
+    finding: Finding,
+    all: &[Value],
+) -> Result<(), AllocError>
+    ensures { OnOk result (map view results.new.items ≡ map view results.old.items ++ map (finding_result finding) (map view all.now)) }
 {
-    let mut results = Vec::new(alloc);
     for told in all {
         results.push(finding_result(alloc, finding, told)?)?;
     }
-    Ok(results)
-}
-
-/// Adds results.
-fn push_all(results: &mut Vec<Value>, more: Vec<Value>) -> Result<(), AllocError>
-    ensures { OnOk result (map view results.new.items ≡ map view results.old.items ++ map view more.items) }
-{
-    let mut more = more;
-    results.append(&mut more)
+    Ok(())
 }
 
 /// Adds the result of an illegal request, where the record tells one.
@@ -72,16 +68,27 @@ fn push_illegal(alloc: Global, results: &mut Vec<Value>, document: &Value) -> Re
     Ok(())
 }
 
+/// Adds the results of a record.
+fn push_all(alloc: Global, results: &mut Vec<Value>, document: &Value) -> Result<(), AllocError>
+    ensures { OnOk result (map view results.new.items ≡ map view results.old.items ++ results_of (view document.now)) }
+{
+    push_findings(
+        alloc,
+        results,
+        Finding::Warning,
+        items_at(document, "warnings"),
+    )?;
+    push_findings(alloc, results, Finding::Race, items_at(document, "races"))?;
+    push_findings(alloc, results, Finding::Fault, items_at(document, "faults"))?;
+    push_illegal(alloc, results, document)
+}
+
 /// The results of a record.
 fn result_values(alloc: Global, document: &Value) -> Result<Vec<Value>, AllocError>
     ensures { IfOk result (λ results. map view results.items ≡ results_of (view document.now)) }
 {
-    let mut results = finding_results(alloc, Finding::Warning, items_at(document, "warnings"))?;
-    let races = finding_results(alloc, Finding::Race, items_at(document, "races"))?;
-    push_all(&mut results, races)?;
-    let faults = finding_results(alloc, Finding::Fault, items_at(document, "faults"))?;
-    push_all(&mut results, faults)?;
-    push_illegal(alloc, &mut results, document)?;
+    let mut results = Vec::new(alloc);
+    push_all(alloc, &mut results, document)?;
     Ok(results)
 }
 

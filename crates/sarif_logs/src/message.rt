@@ -133,18 +133,25 @@ pub(crate) fn push_help(text: &mut String, help: Option<&str>) -> Result<(), All
     }
 }
 
+/// Adds the refused access, what is wrong with it, and what would order the two.
+fn push_race(text: &mut String, race: &Value) -> Result<(), AllocError>
+    ensures { OnOk result (string_bytes text.new ≡ string_bytes text.old ++ race_words (view race.now)) }
+{
+    push_refused(
+        text,
+        &access_at(race, "refused"),
+        items_at(race, "locations"),
+    )?;
+    push_conflict(text, race)?;
+    text.push_str(spawn_words(object_at(race, "parting"), object_at(race, "outstanding")))?;
+    push_help(text, text_at(race, "help"))
+}
+
 /// The message of a race.
 pub(crate) fn race_message(alloc: Global, race: &Value) -> Result<Value, AllocError>
     ensures { IfOk result (λ value. view value ≡ text_told (race_words (view race.now))) }
 {
     let mut text = String::new(alloc);
-    push_refused(
-        &mut text,
-        &access_at(race, "refused"),
-        items_at(race, "locations"),
-    )?;
-    push_conflict(&mut text, race)?;
-    text.push_str(spawn_words(object_at(race, "parting"), object_at(race, "outstanding")))?;
-    push_help(&mut text, text_at(race, "help"))?;
+    push_race(&mut text, race)?;
     text_value(alloc, text.as_str())
 }

@@ -208,14 +208,22 @@ pub(crate) fn push_function(text: &mut String, place: &Place<'_>) -> Result<(), 
     }
 }
 
+/// Adds words, and behind them a place without a file.
+fn push_noted(text: &mut String, words: &str, place: &Place<'_>) -> Result<(), AllocError>
+    ensures { OnOk result (string_bytes text.new ≡ string_bytes text.old ++ noted_words words.now (place_parts place.now)) }
+{
+    text.push_str(words)?;
+    text.push_str(" (")?;
+    push_place(text, place)?;
+    text.push_str(")")
+}
+
 /// A message, and behind it a place without a file.
 fn noted_message(alloc: Global, words: &str, place: &Place<'_>) -> Result<Value, AllocError>
     ensures { IfOk result (λ value. view value ≡ text_told (noted_words words.now (place_parts place.now))) }
 {
-    let mut noted = String::from_str(alloc, words)?;
-    noted.push_str(" (")?;
-    push_place(&mut noted, place)?;
-    noted.push_str(")")?;
+    let mut noted = String::new(alloc);
+    push_noted(&mut noted, words, place)?;
     text_value(alloc, noted.as_str())
 }
 

@@ -6,9 +6,10 @@ ghost use Rattle.serde_json.specs.View.{view};
 ghost use Rattle.sarif_logs.specs.AccessViews.{access_parts};
 ghost use Rattle.sarif_logs.specs.PlaceViews.{place_parts};
 ghost use Rattle.sarif_logs.specs.Related.{with_related, parting_words, outstanding_words, link_words, with_witness, with_parting, with_outstanding};
-ghost use Rattle.sarif_logs.specs.Related.{with_links, related_of};
+ghost use Rattle.sarif_logs.specs.Related.{with_links, with_all, related_of};
 
 use crate::access::{Access, access_at};
+use crate::message::push_three;
 use crate::place::{Place, place_at, push_place, related_value};
 use crate::reading::{object_at, words_at};
 use serde_json::Value;
@@ -28,36 +29,36 @@ fn push_related(
     Ok(())
 }
 
-/// What is said of the spawn where two accesses part.
-fn parting_words(alloc: Global, parting: &Value) -> Result<String, AllocError>
-    ensures { IfOk result (λ words. string_bytes words ≡ parting_words (view parting.now)) }
+/// Adds what is said of the spawn where two accesses part.
+fn push_parting_words(words: &mut String, parting: &Value) -> Result<(), AllocError>
+    ensures { OnOk result (string_bytes words.new ≡ string_bytes words.old ++ parting_words (view parting.now)) }
 {
-    let mut words = String::from_str(alloc, "here they part: what is spawned comes to ")?;
-    push_place(&mut words, &place_at(parting, "child"))?;
+    words.push_str("here they part: what is spawned comes to ")?;
+    push_place(words, &place_at(parting, "child"))?;
     words.push_str(", and the spawner goes on to ")?;
-    push_place(&mut words, &place_at(parting, "next"))?;
-    Ok(words)
+    push_place(words, &place_at(parting, "next"))
 }
 
-/// What is said of the spawn that is outstanding at one of two reads.
-fn outstanding_words(alloc: Global, outstanding: &Value) -> Result<String, AllocError>
-    ensures { IfOk result (λ words. string_bytes words ≡ outstanding_words (view outstanding.now)) }
+/// Adds what is said of the spawn that is outstanding at one of two reads.
+fn push_outstanding_words(words: &mut String, outstanding: &Value) -> Result<(), AllocError>
+    ensures { OnOk result (string_bytes words.new ≡ string_bytes words.old ++ outstanding_words (view outstanding.now)) }
 {
-    let mut words = String::from_str(alloc, "this spawn is outstanding at ")?;
-    push_place(&mut words, &place_at(outstanding, "at"))?;
+    words.push_str("this spawn is outstanding at ")?;
+    push_place(words, &place_at(outstanding, "at"))?;
     words.push_str(" and not at ")?;
-    push_place(&mut words, &place_at(outstanding, "not_at"))?;
-    Ok(words)
+    push_place(words, &place_at(outstanding, "not_at"))
 }
 
-/// What is said of a spawn or call that led to an access.
-fn link_words(alloc: Global, link: &Value, access: &str) -> Result<String, AllocError>
-    ensures { IfOk result (λ words. string_bytes words ≡ link_words (view link.now) access.now) }
+/// Adds what is said of a spawn or call that led to an access.
+fn push_link_words(words: &mut String, link: &Value, access: &str) -> Result<(), AllocError>
+    ensures { OnOk result (string_bytes words.new ≡ string_bytes words.old ++ link_words (view link.now) access.now) }
 {
-    let mut words = String::from_str(alloc, words_at(link, "way"))?;
-    words.push_str(" here, on the way to ")?;
-    words.push_str(access)?;
-    Ok(words)
+    push_three(
+        words,
+        words_at(link, "way"),
+        " here, on the way to ",
+        access,
+    )
 }
 
 /// Adds the earlier access, where there is one.
@@ -86,7 +87,8 @@ fn push_parting(
     let Some(parting) = parting else {
         return Ok(());
     };
-    let words = parting_words(alloc, parting)?;
+    let mut words = String::new(alloc);
+    push_parting_words(&mut words, parting)?;
     push_related(alloc, related, words.as_str(), &place_at(parting, "spawn"))
 }
 
@@ -101,7 +103,8 @@ fn push_outstanding(
     let Some(outstanding) = outstanding else {
         return Ok(());
     };
-    let words = outstanding_words(alloc, outstanding)?;
+    let mut words = String::new(alloc);
+    push_outstanding_words(&mut words, outstanding)?;
     push_related(
         alloc,
         related,
@@ -122,7 +125,8 @@ fn push_links(
     let [link, rest @ ..] = links else {
         return Ok(());
     };
-    let words = link_words(alloc, link, access)?;
+    let mut words = String::new(alloc);
+    push_link_words(&mut words, link, access)?;
     push_related(alloc, related, words.as_str(), &place_at(link, "place"))?;
     push_links(alloc, related, access, rest)
 }
@@ -141,20 +145,22 @@ fn push_way(
     push_links(alloc, related, words.as_str(), access.within)
 }
 
+/// Adds the related locations of a race.
+fn push_all(alloc: Global, related: &mut Vec<Value>, race: &Value) -> Result<(), AllocError>
+    ensures { OnOk result (map view related.new.items ≡ with_all (view race.now) (map view related.old.items)) }
+{
+    push_witness(alloc, related, object_at(race, "witness"))?;
+    push_parting(alloc, related, object_at(race, "parting"))?;
+    push_outstanding(alloc, related, object_at(race, "outstanding"))?;
+    push_way(alloc, related, "this ", &access_at(race, "refused"))?;
+    push_way(alloc, related, "the earlier ", &access_at(race, "witness"))
+}
+
 /// The related locations of a race. The earlier access is the first, the spawn where the two part the second.
 pub(crate) fn related_values(alloc: Global, race: &Value) -> Result<Vec<Value>, AllocError>
     ensures { IfOk result (λ values. map view values.items ≡ related_of (view race.now)) }
 {
     let mut related = Vec::new(alloc);
-    push_witness(alloc, &mut related, object_at(race, "witness"))?;
-    push_parting(alloc, &mut related, object_at(race, "parting"))?;
-    push_outstanding(alloc, &mut related, object_at(race, "outstanding"))?;
-    push_way(alloc, &mut related, "this ", &access_at(race, "refused"))?;
-    push_way(
-        alloc,
-        &mut related,
-        "the earlier ",
-        &access_at(race, "witness"),
-    )?;
+    push_all(alloc, &mut related, race)?;
     Ok(related)
 }

@@ -1,8 +1,0 @@
-use Rattle.std.proofs.Common.{◌≡◌, take, map}
-use Rattle.serde_json.specs.View.{view}
-use Rattle.sarif_logs.specs.Logs.{finding_result}
-use Rattle.sarif_logs.proofs.log.finding_results.Given as goal
-
--- the results of the findings so far
-abbrev pub invariant-loop-told : goal.invariant-loop-told
-invariant-loop-told l = map view l.results.items ≡ map (finding_result l.finding) (map view (take l.told-index l.all))
