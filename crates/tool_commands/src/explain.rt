@@ -19,7 +19,7 @@ ghost use Rattle.command_streams.specs.Watched.{held, has_failed, calls_of, IsCa
 ghost use Rattle.command_streams.specs.Streams.{most_reads};
 ghost use Rattle.command_streams.specs.Readings.{reading};
 ghost use Rattle.command_streams.specs.KeptTexts.{text_of, IsKept};
-ghost use Rattle.program_runs.specs.Runs.{WantsMore};
+ghost use Rattle.program_runs.specs.Runs.{IsWholeRun, LacksRun, WantsMore};
 ghost use Rattle.tool_commands.specs.Runs.{IsRunFault};
 ghost use Rattle.tool_commands.specs.Explanations.{Manner as SpecManner, clean_words, clean_text, cut_words, cut_behind, cut_text};
 ghost use Rattle.tool_commands.specs.Explanations.{file_of, clean_run, TellsClean, TellsRaces, ExplainsCut, TellsCut, TellsFaulty};
@@ -42,7 +42,7 @@ use command_streams::{CliFault, KeptText, Watched, read_kept, write_text};
 use fault_lists::{Fault, faults_message};
 use locked_replay::{RunFault, Whole};
 use packed_history::Entries;
-use program_runs::{Door, run_by_workers, run_in_serial_order};
+use program_runs::{Door, UnfinishedRun, run_by_workers, run_in_serial_order};
 use program_text::Program;
 use program_warnings::{Wraps, program_warnings};
 use race_explanations::{Extent, explanation, most_pairs};
@@ -436,6 +436,48 @@ fn explain_cut(
     }
 }
 
+/// What is told where there is no finished run.
+fn explain_unfinished_run(
+    alloc: Global,
+    manner: &Manner<'_>,
+    text: &[u8],
+    program: &Program<Global>,
+    cut: &UnfinishedRun,
+    limit: u32,
+) -> Result<(Vec<u8>, End), CliFault>
+    requires lacks { LacksRun program.now.functions (shape_in program.now) limit cut.now.fault }
+    requires limit { limit ≤ most_entries }
+    ensures ok { IfOk result (λ told. TellsEnd manner.now text.now (contents program.now) limit told.0.items told.1) }
+    ensures fault { IfErr result (IsRunFault (contents program.now) limit) }
+{
+    match (cut.fault, &cut.gate) {
+        (RunFault::Limit, Some(gate)) => explain_cut(alloc, manner, text, program, gate, limit),
+        (fault, _) => Err(fault_of(fault)),
+    }
+}
+
+/// Some run of a program by so many workers, or by one in the serial order.
+fn some_run<D: Door + Sync, R: Threads + Wait + Sync>(
+    rt: &R,
+    alloc: Global,
+    program: &Program<Global>,
+    workers: usize,
+    is_serial: bool,
+    door: &D,
+    limit: u32,
+) -> Result<Whole, UnfinishedRun>
+    requires workers { (0 < workers) × (workers ≤ 64) }
+    requires limit { limit ≤ most_entries }
+    ensures whole { IfOk result (IsWholeRun program.now limit) }
+    ensures fault { IfErr result (λ cut. LacksRun program.now.functions (shape_in program.now) limit cut.fault) }
+{
+    if is_serial {
+        run_in_serial_order(alloc, program, limit)
+    } else {
+        run_by_workers(rt, alloc, program, workers, door, limit)
+    }
+}
+
 /// What is told of some run of a program by so many workers, or by one in the serial order.
 fn explain_run<D: Door + Sync, R: Threads + Wait + Sync>(
     rt: &R,
@@ -453,18 +495,9 @@ fn explain_run<D: Door + Sync, R: Threads + Wait + Sync>(
     ensures ok { IfOk result (λ told. TellsEnd manner.now text.now (contents program.now) limit told.0.items told.1) }
     ensures fault { IfErr result (IsRunFault (contents program.now) limit) }
 {
-    let ran = if is_serial {
-        run_in_serial_order(alloc, program, limit)
-    } else {
-        run_by_workers(rt, alloc, program, workers, door, limit)
-    };
-    let cut = match ran {
-        Ok(whole) => return Ok(explain_whole(alloc, manner, text, program, &whole, limit)?),
-        Err(cut) => cut,
-    };
-    match (cut.fault, &cut.gate) {
-        (RunFault::Limit, Some(gate)) => explain_cut(alloc, manner, text, program, gate, limit),
-        (fault, _) => Err(fault_of(fault)),
+    match some_run(rt, alloc, program, workers, is_serial, door, limit) {
+        Ok(whole) => Ok(explain_whole(alloc, manner, text, program, &whole, limit)?),
+        Err(cut) => explain_unfinished_run(alloc, manner, text, program, &cut, limit),
     }
 }
 
