@@ -1,6 +1,6 @@
 //! Random legal traces, against the slow reference.
 
-use super::reference::{answer_to_read, races};
+use super::reference::{answer_to_read, is_witness, races};
 use super::{Asks, goes_anew};
 use crate::checks::equal;
 use crate::gates::dag::Dag;
@@ -75,21 +75,24 @@ fn finish(gate: &mut Gate<Global>, dag: &mut Dag) {
     }
 }
 
-fn is_race(answer: Answer) -> bool {
-    matches!(
-        answer,
+/// Whether an access was refused exactly where an earlier one races with it, and by one that does.
+fn is_race_answered(dag: &Dag, earlier: &[Entry], entry: &Entry) -> bool {
+    let strand = entry.request.strand;
+    let act = entry.request.act;
+    match entry.answer {
         Answer::Refused {
             rule: Rule::Race,
-            ..
-        }
-    )
+            witness,
+        } => is_witness(dag, earlier, witness, strand, act),
+        _ => !races(dag, earlier, strand, act),
+    }
 }
 
 /// Whether the entry, behind these, was answered as the reference answers it in the finished dag.
 fn is_answered(dag: &Dag, earlier: &[Entry], entry: &Entry, monoids: &[Monoid]) -> bool {
     let strand = entry.request.strand;
     let act = entry.request.act;
-    is_race(entry.answer) == races(dag, earlier, strand, act)
+    is_race_answered(dag, earlier, entry)
         && match answer_to_read(dag, earlier, monoids, strand, act) {
             Some(answer) => entry.answer == answer,
             None => true,

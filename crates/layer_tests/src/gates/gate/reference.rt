@@ -197,6 +197,22 @@ pub fn races(dag: &Dag, earlier: &[Entry], strand: u32, act: Act) -> bool {
     false
 }
 
+/// Whether the witness of an access of a cell is one: an earlier granted access that races with it.
+pub fn is_witness(dag: &Dag, earlier: &[Entry], witness: Witness, strand: u32, act: Act) -> bool {
+    let Some((kind, cell)) = cell_access(act) else {
+        return false;
+    };
+    match earlier.get((witness.entry as usize).wrapping_sub(1)) {
+        Some(entry) => {
+            entry.request.strand == witness.strand
+                && cell_access(entry.request.act) == Some((witness.kind, cell))
+                && conflicts(entry, kind, cell)
+                && dag.parallel(witness.strand, strand)
+        }
+        None => false,
+    }
+}
+
 /// Whether the entry is a granted access of the cell, of a kind that races with this one.
 fn conflicts(entry: &Entry, kind: Kind, cell: u32) -> bool {
     match cell_access(entry.request.act) {
