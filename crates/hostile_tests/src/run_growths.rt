@@ -57,41 +57,51 @@ fn make_root<'h, 'p>(
 /// The join for which a task waits.
 const JOIN: u32 = 5;
 
-/// Who comes for the join first.
+/// Who comes for the join.
 #[derive(Clone, Copy)]
 enum Comes {
     Task,
     Child,
 }
 
-/// Whether nobody waits for who comes for the join.
-fn come_first<'h, 'p, R: Wait>(
-    rt: &R,
-    lot: &Lot<'p, &'h Heap>,
-    comes: Comes,
-    task: Task<'p, &'h Heap>,
-) -> Result<bool, LotFault> {
-    let met = match comes {
-        Comes::Task => lot.park(rt, JOIN, task)?,
-        Comes::Child => lot.wake(rt, JOIN)?,
-    };
-    Ok(met.is_none())
+impl Comes {
+    fn other(self) -> Comes {
+        match self {
+            Comes::Task => Comes::Child,
+            Comes::Child => Comes::Task,
+        }
+    }
 }
 
-/// Whether the other one gets the task, which goes on behind the join.
-fn come_second<'h, 'p, R: Wait>(
+/// A task comes for the join.
+fn park_root<'h, 'p, R: Wait>(
     rt: &R,
+    heap: &'h Heap,
+    program: &'p Program<Global>,
     lot: &Lot<'p, &'h Heap>,
-    first: Comes,
-    task: Task<'p, &'h Heap>,
-) -> bool {
-    let met = match first {
-        Comes::Task => lot.wake(rt, JOIN),
-        Comes::Child => lot.park(rt, JOIN, task),
+) -> Result<Option<Task<'p, &'h Heap>>, LotFault> {
+    match make_root(heap, program) {
+        Ok(task) => lot.park(rt, JOIN, task),
+        Err(AllocError) => Err(LotFault::Memory),
+    }
+}
+
+/// A task or the last child comes for the join. The strand of the task that goes on behind it, where both came.
+fn come<'h, 'p, R: Wait>(
+    rt: &R,
+    heap: &'h Heap,
+    program: &'p Program<Global>,
+    lot: &Lot<'p, &'h Heap>,
+    comes: Comes,
+) -> Result<Option<u32>, LotFault> {
+    let met = match comes {
+        Comes::Task => park_root(rt, heap, program, lot),
+        Comes::Child => lot.wake(rt, JOIN),
     };
     match met {
-        Ok(Some(task)) => task.strand == JOIN,
-        _ => false,
+        Ok(Some(task)) => Ok(Some(task.strand)),
+        Ok(None) => Ok(None),
+        Err(fault) => Err(fault),
     }
 }
 
@@ -104,25 +114,17 @@ fn meet_in<'h, 'p, R: Wait>(
     comes: Comes,
 ) -> Option<Found> {
     let lot = Lot::new(heap);
-    let Ok(task) = make_root(heap, program) else {
-        return None;
-    };
-    let Ok(again) = make_root(heap, program) else {
-        return None;
-    };
-    let Ok(other) = make_root(heap, program) else {
-        return None;
-    };
     heap.refuse(number);
-    let first = come_first(rt, &lot, comes, task);
+    let asked = come(rt, heap, program, &lot, comes);
     let was_refused = heap.has_refused();
     heap.refuse(0);
-    let is_told = first == Err(LotFault::Memory);
-    let is_first = match is_told {
-        true => come_first(rt, &lot, comes, again),
-        false => first,
+    let is_told = asked == Err(LotFault::Memory);
+    let first = match is_told {
+        true => come(rt, heap, program, &lot, comes),
+        false => asked,
     };
-    let is_right = is_first == Ok(true) && come_second(rt, &lot, comes, other);
+    let is_right = first == Ok(None)
+        && come(rt, heap, program, &lot, comes.other()) == Ok(Some(JOIN));
     is_right.then_some(Found {
         was_refused,
         is_told,
@@ -345,7 +347,7 @@ fn check_in_turn<R: Abort + Threads + Wait + Sync>(rt: &R, alloc: Global, call: 
 
 #[test]
 fn a_task_that_waits_for_its_join(rt: HostRuntime) {
-    check_in_turn(&rt, rt.alloc(), Call::Park, 2);
+    check_in_turn(&rt, rt.alloc(), Call::Park, 3);
 }
 
 #[test]
