@@ -76,7 +76,7 @@ use Command::{
 };
 
 /// A limit that commands take.
-fn limited(rt: &impl Abort, limit: u32) -> u32
+fn check_limit(rt: &impl Abort, limit: u32) -> u32
     ensures { result ≤ most_entries }
 {
     assert!(rt; limit <= MOST);
@@ -84,7 +84,7 @@ fn limited(rt: &impl Abort, limit: u32) -> u32
 }
 
 /// A number of workers that commands take.
-fn manned(rt: &impl Abort, workers: usize) -> usize
+fn check_workers(rt: &impl Abort, workers: usize) -> usize
     ensures { (0 < result) × (result ≤ 64) }
 {
     assert!(rt; 0 < workers);
@@ -93,7 +93,7 @@ fn manned(rt: &impl Abort, workers: usize) -> usize
 }
 
 /// Replays this trace, which stands in memory and so can be read, as a run of the program that is read.
-fn replayed<P: Read>(
+fn replay_trace<P: Read>(
     rt: &impl Abort,
     alloc: Global,
     program: &mut Watched<P>,
@@ -110,7 +110,7 @@ fn replayed<P: Read>(
 }
 
 /// Replays the trace that is read as a run of this program, which stands in memory.
-fn followed<P: Read>(
+fn follow_trace<P: Read>(
     rt: &impl Abort,
     alloc: Global,
     trace: &mut Watched<P>,
@@ -161,7 +161,7 @@ impl Telling {
 }
 
 /// Tells of a run of the program that is read, on paper.
-fn explained<P: Read, R: Abort + Threads + Wait + Sync>(
+fn explain<P: Read, R: Abort + Threads + Wait + Sync>(
     rt: &R,
     alloc: Global,
     program: &mut Watched<P>,
@@ -171,7 +171,10 @@ fn explained<P: Read, R: Abort + Threads + Wait + Sync>(
     requires reader { has_failed program.old ≡ false }
     requires writer { has_failed output.old ≡ false }
 {
-    let (workers, limit) = (manned(rt, telling.workers), limited(rt, telling.limit));
+    let (workers, limit) = (
+        check_workers(rt, telling.workers),
+        check_limit(rt, telling.limit),
+    );
     let manner = Manner {
         is_painted: false,
         rendering: telling.rendering,
@@ -192,7 +195,7 @@ fn explained<P: Read, R: Abort + Threads + Wait + Sync>(
 }
 
 /// What the command answers.
-fn answered<P: Read, R: Abort + Threads + Wait + Sync>(
+fn answer_command<P: Read, R: Abort + Threads + Wait + Sync>(
     rt: &R,
     alloc: Global,
     command: Command<'_>,
@@ -204,43 +207,43 @@ fn answered<P: Read, R: Abort + Threads + Wait + Sync>(
 {
     match command {
         Judge(limit) => {
-            let limit = limited(rt, limit);
+            let limit = check_limit(rt, limit);
             judge_stream(alloc, input, output, limit)
         }
         Elide(limit) => {
-            let limit = limited(rt, limit);
+            let limit = check_limit(rt, limit);
             elide_text(alloc, input, output, limit)
         }
         Run(workers, limit) => {
-            let (workers, limit) = (manned(rt, workers), limited(rt, limit));
+            let (workers, limit) = (check_workers(rt, workers), check_limit(rt, limit));
             run_text(rt, alloc, alloc, input, workers, &OpenDoor, output, limit)
         }
         Trace(workers, limit) => {
-            let (workers, limit) = (manned(rt, workers), limited(rt, limit));
+            let (workers, limit) = (check_workers(rt, workers), check_limit(rt, limit));
             write_run_trace(rt, alloc, input, workers, &OpenDoor, output, limit)
         }
         Explain(workers, limit) => {
             let telling = Telling::text(workers, Extent::First, limit);
-            explained(rt, alloc, input, telling, output)
+            explain(rt, alloc, input, telling, output)
         }
         ExplainAll(workers, limit) => {
             let telling = Telling::text(workers, Extent::All, limit);
-            explained(rt, alloc, input, telling, output)
+            explain(rt, alloc, input, telling, output)
         }
         ExplainSerially(limit) => {
             let telling = Telling::serial(Rendering::Text, limit);
-            explained(rt, alloc, input, telling, output)
+            explain(rt, alloc, input, telling, output)
         }
         ExplainAsJson(limit) => {
             let telling = Telling::serial(Rendering::Record(RecordForm::Json), limit);
-            explained(rt, alloc, input, telling, output)
+            explain(rt, alloc, input, telling, output)
         }
         ExplainAsSarif(limit) => {
             let telling = Telling::serial(Rendering::Record(RecordForm::Sarif), limit);
-            explained(rt, alloc, input, telling, output)
+            explain(rt, alloc, input, telling, output)
         }
-        Replay(trace) => replayed(rt, alloc, input, trace, output),
-        Follow(program) => followed(rt, alloc, input, program, output),
+        Replay(trace) => replay_trace(rt, alloc, input, trace, output),
+        Follow(program) => follow_trace(rt, alloc, input, program, output),
         Draw => draw_text(alloc, Form::Dot, input, output),
         Picture => draw_text(alloc, Form::Svg, input, output),
     }
@@ -441,7 +444,7 @@ fn is_met(alloc: Global, outcome: &Outcome, wanted: Wanted<'_>) -> bool {
 }
 
 /// What comes of the command over this reader and writer.
-fn done<P: Read + Drop, R: Abort + Threads + Wait + Sync>(
+fn perform_command<P: Read + Drop, R: Abort + Threads + Wait + Sync>(
     rt: &R,
     alloc: Global,
     command: Command<'_>,
@@ -450,7 +453,7 @@ fn done<P: Read + Drop, R: Abort + Threads + Wait + Sync>(
 ) -> Outcome {
     let mut input = Watched::new(reader);
     let mut output = Watched::new(writer);
-    let answer = answered(rt, alloc, command, &mut input, &mut output);
+    let answer = answer_command(rt, alloc, command, &mut input, &mut output);
     outcome_of(answer, &input, output)
 }
 
@@ -468,7 +471,7 @@ fn check<P: Read + Drop, R: Abort + Threads + Wait + Sync>(
     reader: P,
     wanted: Wanted<'_>,
 ) {
-    let outcome = done(rt, alloc, command, reader, wanted.writer(alloc));
+    let outcome = perform_command(rt, alloc, command, reader, wanted.writer(alloc));
     meets(rt, alloc, &outcome, wanted);
 }
 

@@ -2,7 +2,7 @@
 
 use crate::checks::equal;
 use crate::pranks::Prank;
-use crate::rounds::ended;
+use crate::rounds::end_with_brand;
 use crate::worked::FIB;
 use locked_replay::RunFault;
 use program_text::Program;
@@ -29,7 +29,7 @@ fn check_fault<R: Abort + Threads + Wait + Sync>(
 ) -> Result<(), Fail> {
     for workers in &[1usize, 2, 8, 64] {
         assert!(rt; 0 < *workers && *workers <= 64);
-        let (found, is_stopped) = ended(rt, alloc, program, *workers, case.prank)?;
+        let (found, is_stopped) = end_with_brand(rt, alloc, program, *workers, case.prank)?;
         let wanted = (Some(case.wanted), true);
         equal(
             rt,

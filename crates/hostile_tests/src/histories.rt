@@ -4,7 +4,7 @@ ghost use Rattle.std.specs.Prelude.{◌<◌, ◌≤◌, length};
 
 use crate::checks::equal;
 use crate::pranks::Prank;
-use crate::rounds::played;
+use crate::rounds::play;
 use crate::worked::FIB;
 use locked_replay::RunFault;
 use program_text::Program;
@@ -37,7 +37,11 @@ struct Splice {
     to: usize,
 }
 
-fn spliced(alloc: Global, entries: &[Entry], splice: Splice) -> Result<Vec<Entry>, AllocError>
+fn splice_entries(
+    alloc: Global,
+    entries: &[Entry],
+    splice: Splice,
+) -> Result<Vec<Entry>, AllocError>
     requires from { splice.from ≤ length entries.now }
     requires to { splice.to ≤ length entries.now }
 {
@@ -60,7 +64,7 @@ fn is_strange(
     requires to { splice.to ≤ length entries.now }
     requires number { number ≤ 714 }
 {
-    let changed = spliced(alloc, entries, splice)?;
+    let changed = splice_entries(alloc, entries, splice)?;
     let found = replay(alloc, program, changed.as_slice());
     equal(
         rt,
@@ -72,7 +76,7 @@ fn is_strange(
 }
 
 /// The entries are strange with any answer Unset, and with any entry twice.
-fn changed_are_strange(
+fn changes_are_strange(
     rt: &impl Abort,
     alloc: Global,
     program: &Program<Global>,
@@ -105,7 +109,7 @@ fn check(
     assert!(rt; entries.len() == 713);
     parts_are_unfinished(rt, alloc, program, entries);
     equal(rt, &"whole", &replay(alloc, program, entries), &Ok(()));
-    changed_are_strange(rt, alloc, program, entries)
+    changes_are_strange(rt, alloc, program, entries)
 }
 
 /// So is a run of the program by one worker.
@@ -114,7 +118,7 @@ fn check_run<R: Abort + Threads + Wait + Sync>(
     alloc: Global,
     program: &Program<Global>,
 ) -> Result<(), RunFault> {
-    let whole = played(rt, alloc, program, 1, Prank::Turns)?;
+    let whole = play(rt, alloc, program, 1, Prank::Turns)?;
     let entries = whole.entries.to_vec(alloc)?;
     Ok(check(rt, alloc, program, entries.as_slice())?)
 }

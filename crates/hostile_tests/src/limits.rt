@@ -107,7 +107,7 @@ const CALL: Request = Request {
 };
 
 /// The entry so often.
-fn repeated(alloc: Global, entry: Entry, count: u32) -> Result<Vec<Entry>, AllocError> {
+fn repeat_entry(alloc: Global, entry: Entry, count: u32) -> Result<Vec<Entry>, AllocError> {
     let mut entries = Vec::new(alloc);
     for _ in 0..count {
         entries.push(entry)?;
@@ -116,12 +116,12 @@ fn repeated(alloc: Global, entry: Entry, count: u32) -> Result<Vec<Entry>, Alloc
 }
 
 /// What is replayed of a program that calls itself so often.
-fn called(alloc: Global, program: &Program<Global>, count: u32) -> Result<(), ReplayFault> {
+fn replay_calls(alloc: Global, program: &Program<Global>, count: u32) -> Result<(), ReplayFault> {
     let entry = Entry {
         request: CALL,
         answer: Answer::Same,
     };
-    let entries = repeated(alloc, entry, count)?;
+    let entries = repeat_entry(alloc, entry, count)?;
     replay(alloc, program, entries.as_slice())
 }
 
@@ -133,7 +133,12 @@ const CALLS: &[(u32, ReplayFault)] = &[
 
 fn check_calls(rt: &impl Abort, alloc: Global, program: &Program<Global>) {
     for (count, fault) in CALLS {
-        equal(rt, count, &called(alloc, program, *count), &Err(*fault));
+        equal(
+            rt,
+            count,
+            &replay_calls(alloc, program, *count),
+            &Err(*fault),
+        );
     }
 }
 

@@ -181,7 +181,7 @@ pub const ENDLESS: u64 = 10_000;
 /// Refuses the call's first growth, its second, and so on until none is refused. How many refusals it told, or behind how many growths
 /// something was not as it is to be. Each refusal is told while requests are asked. What is gathered releases memory on the way, for which
 /// a list may be moved, and does without what is refused then.
-fn told_in_turn<R: Wait>(rt: &R, alloc: Global, call: Call) -> Result<u64, u64> {
+fn refuse_in_turn<R: Wait>(rt: &R, alloc: Global, call: Call) -> Result<u64, u64> {
     let mut told = 0u64;
     for growths in 0..ENDLESS {
         match found_of(rt, alloc, call, growths.saturating_add(1)) {
@@ -196,7 +196,7 @@ fn told_in_turn<R: Wait>(rt: &R, alloc: Global, call: Call) -> Result<u64, u64> 
 
 /// Does so with this call. It tells some.
 fn check_in_turn<R: Abort + Wait>(rt: &R, alloc: Global, call: Call) {
-    let told = told_in_turn(rt, alloc, call);
+    let told = refuse_in_turn(rt, alloc, call);
     let is_right = matches!(told, Ok(count) if 0 < count);
     equal(rt, &(call, told), &is_right, &true);
 }

@@ -41,7 +41,7 @@ fn push_often(text: &mut String, more: &str, count: u32) -> Result<(), AllocErro
 
 /// The head of a trace whose title has one line more than is shown, and whose first strand reads seven times where the first note says,
 /// and so often where the second does.
-fn noted_trace(alloc: Global, reads: u32) -> Result<String, AllocError> {
+fn write_noted_trace(alloc: Global, reads: u32) -> Result<String, AllocError> {
     let mut trace = String::from_str(alloc, NOTES)?;
     push_often(&mut trace, "#run more\n", 99)?;
     push_often(&mut trace, "read 0 x @1\n", 7)?;
@@ -131,7 +131,7 @@ fn check_reads(
     reads: u32,
     has_more: bool,
 ) -> Result<(), AllocError> {
-    let trace = noted_trace(alloc, reads)?;
+    let trace = write_noted_trace(alloc, reads)?;
     let wanted = box_of_reads(alloc, has_more)?;
     assert!(rt; is_drawn(alloc, trace.as_str(), 0, wanted.as_str()));
     Ok(())
@@ -148,7 +148,7 @@ fn accesses_lines_and_characters(rt: HostRuntime) -> Result<(), Fail> {
 fn chain(alloc: Global, end: u32) -> Result<String, AllocError>
     requires { end < 10000 }
 {
-    let mut trace = noted_trace(alloc, 6)?;
+    let mut trace = write_noted_trace(alloc, 6)?;
     trace.push_str(
         "spawn 0\nreturn 1\nsync 2\nspawn 3\nwrite 4 x 1 @1\nwrite 5 x 1 @1\nspawn 5\n",
     )?;

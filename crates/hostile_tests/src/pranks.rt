@@ -64,7 +64,7 @@ fn starves(prank: Prank, number: u64) -> bool {
 }
 
 /// What is done before a request, and what the gate is asked then.
-fn asked_of<L: Ledger, A: Allocator + Clone, R: Wait>(
+fn prepare_request<L: Ledger, A: Allocator + Clone, R: Wait>(
     rt: &R,
     locked: &LockedGate<L, A>,
     prank: Prank,
@@ -90,7 +90,7 @@ fn asked_of<L: Ledger, A: Allocator + Clone, R: Wait>(
 }
 
 /// The receipt that is given in place of one.
-fn given(prank: Prank, number: u64, receipt: Receipt) -> Receipt {
+fn give_receipt(prank: Prank, number: u64, receipt: Receipt) -> Receipt {
     let mut given = receipt;
     if let Prank::Tears(at) = prank {
         if number == at {
@@ -101,7 +101,7 @@ fn given(prank: Prank, number: u64, receipt: Receipt) -> Receipt {
 }
 
 /// Asks a gate so that a prank is played. The count is of the requests before.
-fn played<L: Ledger, A: Allocator + Clone, R: Wait>(
+fn ask_with_prank<L: Ledger, A: Allocator + Clone, R: Wait>(
     rt: &R,
     locked: &LockedGate<L, A>,
     prank: Prank,
@@ -116,9 +116,9 @@ fn played<L: Ledger, A: Allocator + Clone, R: Wait>(
     if starves(prank, number) {
         return Err(GateFault::Memory);
     }
-    let asked = asked_of(rt, locked, prank, number, request);
+    let asked = prepare_request(rt, locked, prank, number, request);
     match locked.ask(rt, seat, asked) {
-        Ok(receipt) => Ok(given(prank, number, receipt)),
+        Ok(receipt) => Ok(give_receipt(prank, number, receipt)),
         Err(fault) => Err(fault),
     }
 }
@@ -130,7 +130,7 @@ impl<'a, L: Ledger> Ask<L> for Prankster<'a, L> {
         seat: &mut Seat<L>,
         request: Request,
     ) -> Result<Receipt, GateFault> {
-        played(rt, self.locked, self.prank, &self.asked, seat, request)
+        ask_with_prank(rt, self.locked, self.prank, &self.asked, seat, request)
     }
 
     fn stop<R: Wait>(&self, rt: &R) {
@@ -165,6 +165,6 @@ impl Door for PrankDoor {
         seat: &mut Seat<L>,
         request: Request,
     ) -> Result<Receipt, GateFault> {
-        played(rt, locked, self.prank, &self.asked, seat, request)
+        ask_with_prank(rt, locked, self.prank, &self.asked, seat, request)
     }
 }

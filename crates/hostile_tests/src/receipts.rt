@@ -56,7 +56,7 @@ struct Changed {
 }
 
 /// The receipt at this place after the change.
-fn altered(receipt: Receipt, at: usize, changed: Changed) -> Receipt {
+fn alter(receipt: Receipt, at: usize, changed: Changed) -> Receipt {
     if at != changed.at {
         return receipt;
     }
@@ -82,7 +82,7 @@ fn ask_all<L: Ledger, R: Wait>(
             return false;
         }
         match locked.ask(rt, seat, *request) {
-            Ok(receipt) => receipts.push_reserved(altered(receipt, at, changed)),
+            Ok(receipt) => receipts.push_reserved(alter(receipt, at, changed)),
             Err(_) => return false,
         }
     }
@@ -122,7 +122,7 @@ fn is_clean<L: Ledger>(
 }
 
 /// The same, where these are asked and the log's receipts are changed so.
-fn gathered<L: Ledger, R: Wait>(
+fn gather_changed<L: Ledger, R: Wait>(
     rt: &R,
     alloc: Global,
     blank: Blank,
@@ -151,7 +151,7 @@ fn check<R: Abort + Wait>(
     changed: Changed,
     wanted: Result<bool, RunFault>,
 ) {
-    let found = gathered::<Brand, R>(rt, alloc, Blank::new(1), program, requests, changed);
+    let found = gather_changed::<Brand, R>(rt, alloc, Blank::new(1), program, requests, changed);
     equal(rt, &changed.at, &found, &wanted);
 }
 

@@ -68,7 +68,7 @@ fn end_of<L: Ledger + Send + Sync, R: Threads + Wait + Sync>(
 }
 
 /// The same, whose workers' ledger nobody else has.
-pub fn ended<R: Threads + Wait + Sync>(
+pub fn end_with_brand<R: Threads + Wait + Sync>(
     rt: &R,
     alloc: Global,
     program: &Program<Global>,
@@ -81,7 +81,7 @@ pub fn ended<R: Threads + Wait + Sync>(
 }
 
 /// The run that is gathered.
-pub fn played<R: Threads + Wait + Sync>(
+pub fn play<R: Threads + Wait + Sync>(
     rt: &R,
     alloc: Global,
     program: &Program<Global>,
@@ -90,6 +90,6 @@ pub fn played<R: Threads + Wait + Sync>(
 ) -> Result<Whole, RunFault>
     requires { (0 < workers) × (workers ≤ 64) }
 {
-    let (whole, _) = ended(rt, alloc, program, workers, prank)?;
+    let (whole, _) = end_with_brand(rt, alloc, program, workers, prank)?;
     whole
 }

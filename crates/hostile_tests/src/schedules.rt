@@ -3,7 +3,7 @@
 ghost use Rattle.std.specs.Prelude.{◌<◌, ◌≤◌};
 
 use crate::pranks::Prank;
-use crate::rounds::played;
+use crate::rounds::play;
 use crate::worked::{FIB, LASTS, TURNS};
 use program_text::Program;
 use std::alloc::Global;
@@ -32,7 +32,7 @@ fn is_run<R: Threads + Wait + Sync>(
 ) -> bool
     requires { (0 < workers) × (workers ≤ 64) }
 {
-    match played(rt, alloc, program, workers, Prank::Turns) {
+    match play(rt, alloc, program, workers, Prank::Turns) {
         Ok(whole) => {
             whole.clean
                 && whole.entries.len() == clean.entries

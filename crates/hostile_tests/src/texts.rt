@@ -17,7 +17,7 @@ pub(crate) fn meant_by(alloc: Global, text: &[u8]) -> Option<Result<usize, (u32,
 }
 
 /// A text's program, printed with each line in its place. Programs that are printed alike are one.
-fn printed(alloc: Global, text: &[u8]) -> Option<Vec<u8>> {
+fn print_program(alloc: Global, text: &[u8]) -> Option<Vec<u8>> {
     match Program::parse(alloc, text) {
         Ok(program) => program.print(alloc).ok(),
         Err(_) => None,
@@ -26,7 +26,7 @@ fn printed(alloc: Global, text: &[u8]) -> Option<Vec<u8>> {
 
 /// Whether a text means the program that is printed so.
 fn means(alloc: Global, text: &[u8], wanted: &[u8]) -> bool {
-    match printed(alloc, text) {
+    match print_program(alloc, text) {
         Some(printed) => printed.as_slice() == wanted,
         None => false,
     }
@@ -34,7 +34,7 @@ fn means(alloc: Global, text: &[u8], wanted: &[u8]) -> bool {
 
 /// Whether two texts mean one program.
 fn mean_one(alloc: Global, one: &[u8], other: &[u8]) -> bool {
-    match printed(alloc, other) {
+    match print_program(alloc, other) {
         Some(wanted) => means(alloc, one, wanted.as_slice()),
         None => false,
     }
@@ -111,7 +111,7 @@ fn requests_to(number: u32) -> usize {
 }
 
 /// What the text means whose line of this number breaks off behind so many bytes.
-fn wanted_of(part: Part<'_>, number: u32, end: usize) -> Result<usize, (u32, Cause)> {
+fn meaning_of(part: Part<'_>, number: u32, end: usize) -> Result<usize, (u32, Cause)> {
     if end < part.least && number == 1 {
         Err((1, Cause::BadHeader))
     } else if end == 0 {
@@ -134,7 +134,7 @@ fn check_part(rt: &impl Abort, alloc: Global, part: Part<'_>, number: u32, start
             rt,
             &(number, end),
             &found,
-            &Some(wanted_of(part, number, end)),
+            &Some(meaning_of(part, number, end)),
         );
     }
 }
@@ -161,7 +161,7 @@ fn check_parts(rt: &impl Abort, alloc: Global, parts: &[Part<'_>]) {
 }
 
 /// A text's trace, printed with each line in its place.
-fn printed_trace(alloc: Global, text: &[u8]) -> Option<Vec<u8>> {
+fn print_trace(alloc: Global, text: &[u8]) -> Option<Vec<u8>> {
     match Trace::parse(alloc, text) {
         Ok(trace) => trace.print(alloc).ok(),
         Err(_) => None,
@@ -170,7 +170,7 @@ fn printed_trace(alloc: Global, text: &[u8]) -> Option<Vec<u8>> {
 
 /// Whether a text means PAIR's trace.
 fn means_pair(alloc: Global, text: &[u8]) -> bool {
-    match printed_trace(alloc, text) {
+    match print_trace(alloc, text) {
         Some(printed) => printed.as_slice() == PAIR_TRACE,
         None => false,
     }

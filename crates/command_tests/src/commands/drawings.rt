@@ -168,7 +168,7 @@ const FIRST_EDGES: &str =
     "  0 -> 1 [label=\"child\"];\n  0 -> 2 [label=\"next\"];\n  1 -> 3 [label=\"join\"];\n  2 -> 3 [label=\"join\"];\n  3 -> 4 [label=\"child\"];\n  3 -> 5 [label=\"next\"];\n  5 -> 7 [label=\"child\"];\n  5 -> 8 [label=\"next\"];\n";
 
 /// The drawing of the chain that begins as many strands as are drawn.
-fn drawn_chain(alloc: Global) -> Result<String, AllocError> {
+fn draw_chain(alloc: Global) -> Result<String, AllocError> {
     let mut wanted = String::from_str(alloc, "digraph trace {\n")?;
     push_nodes(&mut wanted)?;
     wanted.push_str(FIRST_EDGES)?;
@@ -180,7 +180,7 @@ fn drawn_chain(alloc: Global) -> Result<String, AllocError> {
 #[test]
 fn just_as_many_strands_as_are_drawn(rt: HostRuntime) -> Result<(), Fail> {
     let trace = chain(rt.alloc(), 5_000)?;
-    let wanted = drawn_chain(rt.alloc())?;
+    let wanted = draw_chain(rt.alloc())?;
     let wanted = Text(0, wanted.as_str());
     check(&rt, rt.alloc(), Draw, trace.as_bytes(), wanted);
     Ok(())

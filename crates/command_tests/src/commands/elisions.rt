@@ -79,7 +79,7 @@ const WIDE: &str = "cilk 1\nmem a 20000\nmem x\nfunc main z\nwrite a[19999] 5\nw
 
 /// What it leaves: 10 lines of 7 bytes, 90 of 8, 900 of 9, 9,000 of 10 and 10,000 of 11, and two of 4 and 11. These are 208,905 bytes, more
 /// than wait to be written at any time.
-fn left_by_wide(alloc: Global) -> Result<String, AllocError> {
+fn write_wide_memory(alloc: Global) -> Result<String, AllocError> {
     let mut lines = String::new(alloc);
     for index in 0..19_999u32 {
         push_number(&mut lines, "a[", index, "] 0\n")?;
@@ -114,7 +114,7 @@ fn check_wide<R: Abort + Threads + Wait + Sync>(rt: &R, alloc: Global, lines: &s
 
 #[test]
 fn an_elision_of_many_cells_that_can_be_written_or_not(rt: HostRuntime) -> Result<(), Fail> {
-    let lines = left_by_wide(rt.alloc())?;
+    let lines = write_wide_memory(rt.alloc())?;
     check_wide(&rt, rt.alloc(), lines.as_str());
     Ok(())
 }

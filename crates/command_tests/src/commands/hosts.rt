@@ -7,7 +7,7 @@ ghost use Rattle.command_streams.specs.Sources.{unknown_sources};
 
 use super::Wanted::{Lacking, Status, Text};
 use super::worked::{FIB, PAIR};
-use super::{MOST, Outcome, Wanted, is_ended, manned, meets, outcome_of};
+use super::{MOST, Outcome, Wanted, check_workers, is_ended, meets, outcome_of};
 use crate::devices::{Breaking, Filling};
 use command_jobs::{Color, Format, Host, Job, Language, Watched, perform, perform_alone};
 use std::alloc::{AllocError, Global};
@@ -171,7 +171,7 @@ fn job_alone(alloc: Global, deed: Deed) -> Result<Job, AllocError>
 }
 
 /// What comes of a job over these texts.
-fn performed<R: Threads + Wait + Sync>(
+fn perform_over<R: Threads + Wait + Sync>(
     rt: &R,
     alloc: Global,
     texts: Texts<'_>,
@@ -187,7 +187,7 @@ fn performed<R: Threads + Wait + Sync>(
 }
 
 /// What comes of a job that starts no thread.
-fn performed_alone(alloc: Global, texts: Texts<'_>, job: &Job, wanted: Wanted<'_>) -> Outcome
+fn perform_alone_over(alloc: Global, texts: Texts<'_>, job: &Job, wanted: Wanted<'_>) -> Outcome
     requires ranges { IsInRange job.now }
     requires alone { IsAlone job.now }
 {
@@ -207,7 +207,7 @@ fn check_job<R: Abort + Threads + Wait + Sync>(
 )
     requires { IsInRange job.now }
 {
-    let outcome = performed(rt, alloc, texts, job, wanted);
+    let outcome = perform_over(rt, alloc, texts, job, wanted);
     meets(rt, alloc, &outcome, wanted);
 }
 
@@ -216,7 +216,7 @@ fn check_job_alone(rt: &impl Abort, alloc: Global, texts: Texts<'_>, job: &Job, 
     requires ranges { IsInRange job.now }
     requires alone { IsAlone job.now }
 {
-    let outcome = performed_alone(alloc, texts, job, wanted);
+    let outcome = perform_alone_over(alloc, texts, job, wanted);
     meets(rt, alloc, &outcome, wanted);
 }
 
@@ -268,7 +268,7 @@ pub(super) fn check_deeds<R: Abort + Threads + Wait + Sync>(
 fn run_job(rt: &impl Abort, alloc: Global, file: &str, workers: usize) -> Result<Job, AllocError>
     ensures { IfOk result IsInRange }
 {
-    let workers = manned(rt, workers);
+    let workers = check_workers(rt, workers);
     let file = String::from_str(alloc, file)?;
     Ok(Job::Run {
         file,
@@ -334,7 +334,7 @@ const PARTS: &[(&str, &str)] = &[
 ];
 
 /// The parts in files.
-fn parted() -> Texts<'static> {
+fn parts_in_files() -> Texts<'static> {
     Texts {
         input: "",
         files: PARTS,
@@ -439,7 +439,7 @@ const RECORDED: &[Done] = &[
 /// As JSON, too, pairs that are told alike are told once, with the counts and the names of all parts.
 #[test]
 fn parts_of_a_recording_are_told_as_json(rt: HostRuntime) -> Result<(), Fail> {
-    check_deeds(&rt, rt.alloc(), parted(), RECORDED)
+    check_deeds(&rt, rt.alloc(), parts_in_files(), RECORDED)
 }
 
 /// What is told of several parts of a recording.
@@ -453,7 +453,7 @@ const EXPLAINED: &[Done] = &[
 /// Pairs that are told alike are told once, with the counts of all parts.
 #[test]
 fn parts_of_a_recording_are_explained_together(rt: HostRuntime) -> Result<(), Fail> {
-    check_deeds(&rt, rt.alloc(), parted(), EXPLAINED)
+    check_deeds(&rt, rt.alloc(), parts_in_files(), EXPLAINED)
 }
 
 /// What is told where a part has a fault, or is not there.
@@ -467,7 +467,7 @@ const FAULTY: &[Done] = &[
 /// A part with a fault is told by its name, unless one before it is not there.
 #[test]
 fn a_part_with_a_fault_is_told_by_its_name(rt: HostRuntime) -> Result<(), Fail> {
-    check_deeds(&rt, rt.alloc(), parted(), FAULTY)
+    check_deeds(&rt, rt.alloc(), parts_in_files(), FAULTY)
 }
 
 /// What is done with texts, and what is wanted of it.
@@ -628,7 +628,7 @@ fn a_run_of_a_program_that_is_there_or_not(rt: HostRuntime) -> Result<(), Fail> 
 fn trace_job(rt: &impl Abort, alloc: Global, file: &str, workers: usize) -> Result<Job, AllocError>
     ensures { IfOk result IsInRange }
 {
-    let workers = manned(rt, workers);
+    let workers = check_workers(rt, workers);
     let file = String::from_str(alloc, file)?;
     Ok(Job::Trace {
         file,
@@ -697,7 +697,7 @@ const STOLEN_REPORT: &str =
 fn is_stolen<R: Threads + Wait + Sync>(rt: &R, alloc: Global, job: &Job) -> bool
     requires { IsInRange job.now }
 {
-    let outcome = performed(rt, alloc, STOLEN, job, Status(1));
+    let outcome = perform_over(rt, alloc, STOLEN, job, Status(1));
     is_ended(&outcome, 1)
         && outcome
             .output

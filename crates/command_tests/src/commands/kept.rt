@@ -280,7 +280,7 @@ fn add(rt: &impl Abort, alloc: Global, traces: &mut Traces, long: Long) -> Resul
 }
 
 /// These texts together.
-fn added(rt: &impl Abort, alloc: Global, texts: &[Long]) -> Result<Traces, Fail> {
+fn add_texts(rt: &impl Abort, alloc: Global, texts: &[Long]) -> Result<Traces, Fail> {
     let mut traces = Traces::new(alloc);
     for long in texts {
         add(rt, alloc, &mut traces, *long)?;
@@ -293,7 +293,7 @@ const TOGETHER: &[Long] = &[RACED, RECORDED, RACED];
 
 #[test]
 fn long_traces_are_explained_together(rt: HostRuntime) -> Result<(), Fail> {
-    let traces = added(&rt, rt.alloc(), TOGETHER)?;
+    let traces = add_texts(&rt, rt.alloc(), TOGETHER)?;
     let told = traces.to_message(rt.alloc(), Extent::First, Rendering::Text)?;
     assert_eq!(rt; told.as_slice(), TOGETHER_TOLD.as_bytes());
     assert_eq!(rt; traces.status(), 1);

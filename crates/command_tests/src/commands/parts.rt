@@ -37,7 +37,7 @@ const PARTS: &[(&str, &str)] = &[
     ),
 ];
 
-fn parted() -> Texts<'static> {
+fn parts_in_files() -> Texts<'static> {
     Texts {
         input: "",
         files: PARTS,
@@ -189,5 +189,5 @@ const GROUPED: &[Done] = &[
 /// Pairs of several parts whose spawns are told alike are one group, by the rule of one part.
 #[test]
 fn pairs_of_several_parts_are_told_in_groups(rt: HostRuntime) -> Result<(), Fail> {
-    check_deeds(&rt, rt.alloc(), parted(), GROUPED)
+    check_deeds(&rt, rt.alloc(), parts_in_files(), GROUPED)
 }

@@ -8,7 +8,8 @@ use super::Command::{Follow, Judge, Trace};
 use super::Wanted::{Fault, Status, Text};
 use super::worked::{FIB, LASTS, MANY_TURNS, PAIR, SERIES, TURNS};
 use super::{
-    Case, MOST, Takes, check, check_all, done, has_ended, is_ended, is_fault, limited, manned,
+    Case, MOST, Takes, check, check_all, check_limit, check_workers, has_ended, is_ended, is_fault,
+    perform_command,
 };
 use crate::devices::{Breaking, Filling};
 use command_jobs::{CliFault, Host, Job, Watched, check_names, perform};
@@ -101,7 +102,7 @@ impl Drop for Recorded {
 }
 
 /// Runs a program, and writes the trace of the run and its report.
-fn ran_recorded<R: Abort + Threads + Wait + Sync>(
+fn run_recorded<R: Abort + Threads + Wait + Sync>(
     rt: &R,
     alloc: Global,
     program: &str,
@@ -115,11 +116,11 @@ fn ran_recorded<R: Abort + Threads + Wait + Sync>(
         rt,
         alloc,
         &mut program,
-        manned(rt, workers),
+        check_workers(rt, workers),
         &OpenDoor,
         &mut trace,
         &mut output,
-        limited(rt, told.limit()),
+        check_limit(rt, told.limit()),
     );
     Recorded {
         answer,
@@ -201,7 +202,7 @@ fn check_recorded<R: Abort + Threads + Wait + Sync>(
     workers: usize,
     told: Told<'_>,
 ) {
-    let run = ran_recorded(rt, alloc, program, workers, told);
+    let run = run_recorded(rt, alloc, program, workers, told);
     let trace = run.trace.held.as_slice();
     assert!(rt; is_told(&run, told), "it wrote {trace:?}");
     if let Replays(status, program, wanted) = told {
@@ -306,7 +307,7 @@ fn check_alone<R: Abort + Threads + Wait + Sync>(
     wanted: &str,
 ) {
     let command = Trace(workers, MOST);
-    let run = done(
+    let run = perform_command(
         rt,
         alloc,
         command,
@@ -446,7 +447,7 @@ impl Asked {
     fn job<R: Abort>(self, rt: &R, alloc: Global) -> Result<Job, AllocError>
         ensures { IfOk result IsInRange }
     {
-        let limit = limited(rt, self.limit);
+        let limit = check_limit(rt, self.limit);
         let file = String::from_str(alloc, "program")?;
         let trace = String::from_str(alloc, self.trace)?;
         Ok(Job::Record {
@@ -475,7 +476,7 @@ impl Drop for Left<'_> {
     }
 }
 
-fn done_at<'a, R: Threads + Wait + Sync>(
+fn perform_at_desk<'a, R: Threads + Wait + Sync>(
     rt: &R,
     alloc: Global,
     program: &'a str,
@@ -541,7 +542,7 @@ fn check_desk<R: Abort + Threads + Wait + Sync>(
     leaves: Leaves,
 ) -> Result<(), Fail> {
     let job = asked.job(rt, alloc)?;
-    let left = done_at(rt, alloc, asked.program, &job);
+    let left = perform_at_desk(rt, alloc, asked.program, &job);
     assert!(rt; is_left(&left, leaves), "{}", asked.trace);
     Ok(())
 }
@@ -575,7 +576,7 @@ fn a_trace_in_a_file(rt: HostRuntime) -> Result<(), Fail> {
 }
 
 /// What is found of the names in a job at a desk.
-fn named(alloc: Global, job: &Job) -> Result<(), CliFault> {
+fn check_job_names(alloc: Global, job: &Job) -> Result<(), CliFault> {
     let host = Watched::new(new_desk(alloc, SHORT));
     check_names(alloc, &host, job)
 }
@@ -614,7 +615,10 @@ fn check_name(
     wanted: Option<&str>,
 ) -> Result<(), Fail> {
     let job = job_with(alloc, trace, is_replayed)?;
-    assert!(rt; is_named(alloc, &named(alloc, &job), wanted), "{trace}");
+    assert!(rt;
+        is_named(alloc, &check_job_names(alloc, &job), wanted),
+        "{trace}"
+    );
     Ok(())
 }
 
@@ -666,8 +670,8 @@ fn is_alone(left: &Left<'_>) -> bool {
 #[test]
 fn a_trace_on_standard_output(rt: HostRuntime) -> Result<(), Fail> {
     let job = job_alone(rt.alloc())?;
-    assert!(rt; named(rt.alloc(), &job).is_ok());
-    let left = done_at(&rt, rt.alloc(), SHORT, &job);
+    assert!(rt; check_job_names(rt.alloc(), &job).is_ok());
+    let left = perform_at_desk(&rt, rt.alloc(), SHORT, &job);
     assert!(rt; is_alone(&left));
     Ok(())
 }

@@ -57,7 +57,7 @@ fn runs_that_no_door_decides(rt: HostRuntime) {
 }
 
 /// What comes of a run of PAIR by two workers through a door.
-fn ran_pair<D: Door + Sync, R: Threads + Wait + Sync>(
+fn run_pair<D: Door + Sync, R: Threads + Wait + Sync>(
     rt: &R,
     alloc: Global,
     door: &D,
@@ -76,7 +76,7 @@ fn check_pair<D: Door + Sync, R: Abort + Threads + Wait + Sync>(
     door: &D,
     wanted: Wanted<'_>,
 ) {
-    let outcome = ran_pair(rt, alloc, door, wanted);
+    let outcome = run_pair(rt, alloc, door, wanted);
     meets(rt, alloc, &outcome, wanted);
 }
 

@@ -73,7 +73,7 @@ pub(super) enum Command {
 
 impl Command {
     /// What it tells where no growth is refused.
-    fn told(self) -> Told {
+    fn tell(self) -> Told {
         match self {
             Command::Judge => JUDGED,
             Command::Elide => ELIDED,
@@ -110,7 +110,7 @@ struct Found {
     has_starved: bool,
 }
 
-fn judged(alloc: Global, heap: &Heap) -> Ended {
+fn judge(alloc: Global, heap: &Heap) -> Ended {
     let mut input = Watched::new(SPAWNING);
     let mut output = Watched::new(Vec::new(alloc));
     let answer = judge_stream(heap, &mut input, &mut output, MOST);
@@ -120,7 +120,7 @@ fn judged(alloc: Global, heap: &Heap) -> Ended {
     }
 }
 
-fn elided(alloc: Global, heap: &Heap) -> Ended {
+fn elide_fib(alloc: Global, heap: &Heap) -> Ended {
     let mut program = Watched::new(FIB);
     let mut output = Watched::new(Vec::new(alloc));
     let answer = elide_text(heap, &mut program, &mut output, MOST);
@@ -130,7 +130,7 @@ fn elided(alloc: Global, heap: &Heap) -> Ended {
     }
 }
 
-fn replayed(alloc: Global, heap: &Heap) -> Ended {
+fn replay_pair(alloc: Global, heap: &Heap) -> Ended {
     let mut program = Watched::new(PAIR);
     let mut trace = Watched::new(PAIR_TRACE);
     let mut output = Watched::new(Vec::new(alloc));
@@ -141,7 +141,7 @@ fn replayed(alloc: Global, heap: &Heap) -> Ended {
     }
 }
 
-fn drawn(alloc: Global, heap: &Heap, form: Form) -> Ended {
+fn draw(alloc: Global, heap: &Heap, form: Form) -> Ended {
     let mut trace = Watched::new(NOTED);
     let mut output = Watched::new(Vec::new(alloc));
     let answer = draw_text(heap, form, &mut trace, &mut output);
@@ -153,10 +153,10 @@ fn drawn(alloc: Global, heap: &Heap, form: Form) -> Ended {
 
 fn perform(alloc: Global, heap: &Heap, command: Command) -> Ended {
     match command {
-        Command::Judge => judged(alloc, heap),
-        Command::Elide => elided(alloc, heap),
-        Command::Replay => replayed(alloc, heap),
-        Command::Draw(form) => drawn(alloc, heap, form),
+        Command::Judge => judge(alloc, heap),
+        Command::Elide => elide_fib(alloc, heap),
+        Command::Replay => replay_pair(alloc, heap),
+        Command::Draw(form) => draw(alloc, heap, form),
     }
 }
 
@@ -164,7 +164,7 @@ fn found_of(alloc: Global, heap: &Heap, command: Command) -> Found {
     let ended = perform(alloc, heap, command);
     let is_judge = matches!(command, Command::Judge);
     Found {
-        tells: ended.tells(command.told()),
+        tells: ended.tells(command.tell()),
         has_starved: ended.tells(NOTHING) || is_judge && ended.tells(STARVED),
     }
 }

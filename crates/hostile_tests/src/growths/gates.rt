@@ -23,7 +23,7 @@ pub(super) enum Call {
 
 pub(super) fn is_refused(alloc: Global, heap: &Heap, number: u64, call: Call) -> Option<bool> {
     let is_new = matches!(call, Call::New);
-    match opened(heap, if is_new { number } else { 0 }) {
+    match open_gate(heap, if is_new { number } else { 0 }) {
         Some(Ok(mut gate)) => does(alloc, heap, number, call, &mut gate),
         Some(Err(AllocError)) => is_new.then_some(true),
         None => None,
@@ -105,7 +105,7 @@ fn shape(heap: &Heap) -> Result<Shape<&Heap>, AllocError>
 }
 
 /// A gate of which the growth of this number is refused, or none where that is 0, or None where there is no memory for its shape.
-fn opened(heap: &Heap, number: u64) -> Option<Result<Gate<&Heap>, AllocError>> {
+fn open_gate(heap: &Heap, number: u64) -> Option<Result<Gate<&Heap>, AllocError>> {
     match shape(heap) {
         Ok(shape) => {
             heap.refuse(number);
@@ -127,7 +127,7 @@ fn keeps(gate: &Gate<&Heap>, entries: &[Entry], number: u64) -> bool {
 const WANTING: Reply = Reply::Illegal(GateFault::Memory);
 
 /// What the gate replies to the request.
-fn asked(gate: &mut Gate<&Heap>, request: Request) -> Reply {
+fn ask(gate: &mut Gate<&Heap>, request: Request) -> Reply {
     match gate.judge(request) {
         Ok(receipt) => Reply::Done(receipt),
         Err(fault) => Reply::Illegal(fault),
@@ -150,9 +150,9 @@ fn asks(gate: &mut Gate<&Heap>, number: u32, entry: Entry) -> Option<bool> {
         request,
         answer,
     });
-    let found = asked(gate, request);
+    let found = ask(gate, request);
     if found == WANTING {
-        (keeps_before(gate, number) && asked(gate, request) == wanted).then_some(true)
+        (keeps_before(gate, number) && ask(gate, request) == wanted).then_some(true)
     } else {
         (found == wanted).then_some(false)
     }
@@ -197,7 +197,7 @@ fn replies_alike(gate: &mut Gate<&Heap>, replies: &[Reply]) -> Option<usize> {
         };
         if *reply == WANTING {
             left_out = left_out.saturating_add(1);
-        } else if *reply != asked(gate, *request) {
+        } else if *reply != ask(gate, *request) {
             return None;
         }
     }
@@ -219,9 +219,9 @@ fn are_replies(gate: &Gate<&Heap>, other: &mut Gate<&Heap>, replies: &[Reply]) -
 }
 
 /// So it is where the other gate stands over a heap of its own.
-fn compared(alloc: Global, gate: &Gate<&Heap>, replies: &[Reply]) -> Option<bool> {
+fn compare_replies(alloc: Global, gate: &Gate<&Heap>, replies: &[Reply]) -> Option<bool> {
     let spare = Refusing::new(alloc);
-    match opened(&spare, 0) {
+    match open_gate(&spare, 0) {
         Some(Ok(mut other)) => are_replies(gate, &mut other, replies),
         _ => None,
     }
@@ -235,7 +235,7 @@ fn replies_at_last(heap: &Heap, gate: &mut Gate<&Heap>) -> bool {
 /// The gate replies to the list of requests, once more where there was no room for the replies. Whether there was no memory.
 fn replies_to_all(alloc: Global, heap: &Heap, gate: &mut Gate<&Heap>) -> Option<bool> {
     match judge_all(gate, heap, REQUESTS) {
-        Ok(replies) => compared(alloc, gate, replies.as_slice()),
+        Ok(replies) => compare_replies(alloc, gate, replies.as_slice()),
         Err(AllocError) => replies_at_last(heap, gate).then_some(true),
     }
 }

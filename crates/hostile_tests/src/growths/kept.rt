@@ -136,7 +136,7 @@ fn views(heap: &Heap, number: u64, is_new: bool) -> Option<bool> {
 }
 
 /// New strands, of which strand 0 has spawned.
-fn spawned(heap: &Heap) -> Option<Strands<&Heap>>
+fn spawn_first(heap: &Heap) -> Option<Strands<&Heap>>
     ensures { IfSome result (λ strands. (history : History) × Follows strands history) }
 {
     match Strands::new(heap) {
@@ -201,7 +201,7 @@ fn keeps_new(strands: &Strands<&Heap>, shadow: &mut Shadow<&Heap>) -> bool
 /// Whether a growth of a new shadow history is refused. Asked for once more, it is as ever.
 fn new_shadow(heap: &Heap, number: u64) -> Option<bool> {
     heap.refuse(0);
-    let strands = spawned(heap)?;
+    let strands = spawn_first(heap)?;
     heap.refuse(number);
     match Shadow::new(heap, 3) {
         Ok(mut shadow) => keeps_new(&strands, &mut shadow).then_some(false),

@@ -64,12 +64,12 @@ fn does(heap: &Heap, number: u64, call: Call, program: &Program<&Heap>) -> Optio
         Call::Shape => lacks_shape(program.shape(heap), 1, &[Monoid::Sum]),
         Call::Answer => frame(heap, number, program, true),
         Call::Reserve => frame(heap, number, program, false),
-        Call::Elide => elided(heap, program),
-        Call::Replay => replayed(heap, program),
+        Call::Elide => try_elide(heap, program),
+        Call::Replay => try_replay(heap, program),
     }
 }
 
-fn elided(heap: &Heap, program: &Program<&Heap>) -> Option<bool> {
+fn try_elide(heap: &Heap, program: &Program<&Heap>) -> Option<bool> {
     match elide(heap, program, 713) {
         Ok(elided) => (elided.memory.as_slice() == [55].as_slice()
             && elided.requests == 713).then_some(false),
@@ -174,7 +174,7 @@ const ENTRIES: &[Entry] = &[
     entry!(3, Act::Return, 7, Answer::Finished),
 ];
 
-fn replayed(heap: &Heap, program: &Program<&Heap>) -> Option<bool> {
+fn try_replay(heap: &Heap, program: &Program<&Heap>) -> Option<bool> {
     match replay(heap, program, ENTRIES) {
         Ok(()) => Some(false),
         Err(ReplayFault::Memory) => Some(true),

@@ -208,14 +208,14 @@ fn an_access_finds_the_access_that_it_races_with(rt: HostRuntime) {
 
 /// The bytes that the shadow history of so many locations takes from a heap of so many bytes: 0 where it is refused, and none without a
 /// heap.
-fn taken(alloc: Global, bytes: usize, locations: u32) -> Option<usize> {
+fn count_bytes(alloc: Global, bytes: usize, locations: u32) -> Option<usize> {
     match LocalHeap::new(alloc, bytes) {
-        Ok(heap) => Some(taken_from(&heap, locations)),
+        Ok(heap) => Some(count_bytes_from(&heap, locations)),
         Err(_) => None,
     }
 }
 
-fn taken_from(heap: &LocalHeap, locations: u32) -> usize {
+fn count_bytes_from(heap: &LocalHeap, locations: u32) -> usize {
     match Shadow::new(heap, locations) {
         Ok(_shadow) => heap.used(),
         Err(_) => 0,
@@ -267,15 +267,15 @@ fn laws_hold() {
 fn are_of_many(alloc: Global, bytes: usize) -> bool {
     16 < bytes
         && bytes % 1_000 == 0
-        && taken(alloc, 64_000, 1_000) == Some(bytes / 1_000)
-        && taken(alloc, bytes, 1_000_000) == Some(bytes)
-        && taken(alloc, bytes - 16, 1_000_000) == Some(0)
+        && count_bytes(alloc, 64_000, 1_000) == Some(bytes / 1_000)
+        && count_bytes(alloc, bytes, 1_000_000) == Some(bytes)
+        && count_bytes(alloc, bytes - 16, 1_000_000) == Some(0)
 }
 
 #[test]
 fn many_locations_take_one_allocation_or_are_refused(rt: HostRuntime) {
     laws_hold();
-    let bytes = taken(rt.alloc(), 64_000_000, 1_000_000).unwrap_or(0);
+    let bytes = count_bytes(rt.alloc(), 64_000_000, 1_000_000).unwrap_or(0);
     assert!(rt; are_of_many(rt.alloc(), bytes));
     assert!(rt; takes_only(rt.alloc(), 1_000_000, bytes));
 }
@@ -363,7 +363,7 @@ fn races(reference: &Reference, location: u32, new: Kind, strand: u32) -> bool {
     false
 }
 
-fn drawn_act(choice: u32, location: u32) -> Act {
+fn choose_act(choice: u32, location: u32) -> Act {
     match choice {
         0..=3 => Spawn,
         4 => Sync,
@@ -386,7 +386,7 @@ fn running_below(dag: &Dag, most: u32) -> u32 {
 }
 
 /// Does an act of a running strand in the reference, and says what it finds: the witness, and whether any access races.
-fn expected(reference: &mut Reference, strand: u32, asked: Act) -> (Option<Witness>, bool) {
+fn expect(reference: &mut Reference, strand: u32, asked: Act) -> (Option<Witness>, bool) {
     match asked {
         Spawn => reference.dag.spawn(strand),
         Sync => reference.dag.sync(strand),
@@ -425,7 +425,7 @@ fn draw_one(dag: &Dag, entry: u32, state: u64) -> (Drawn, u64) {
     let (choice, state_last) = draw(state_then, 14);
     let (location, state_next) = draw(state_last, 2);
     let strand = running_below(dag, most);
-    let asked = drawn_act(choice, location);
+    let asked = choose_act(choice, location);
     let drawn = Drawn {
         entry,
         strand,
@@ -439,7 +439,7 @@ fn take(reference: &mut Reference, drawn: Drawn) -> (Option<Witness>, bool) {
     if !reference.dag.runs(drawn.strand) {
         return (None, false);
     }
-    let wanted = expected(reference, drawn.strand, drawn.asked);
+    let wanted = expect(reference, drawn.strand, drawn.asked);
     if wanted.0.is_none() {
         keep(reference, drawn);
     }

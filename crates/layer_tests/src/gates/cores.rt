@@ -52,7 +52,7 @@ macro_rules! request {
 }
 
 /// What the core shows.
-fn shown_by(core: &Core<Global>) -> Shown {
+fn show_core(core: &Core<Global>) -> Shown {
     (
         core.entries(),
         core.is_finished(),
@@ -69,12 +69,12 @@ fn goes(core: &mut Core<Global>, step: Step) -> bool {
             core.stop();
             true
         }
-        Shows(shown, cell) => shown_by(core) == shown && core.memory().first() == Some(&cell),
+        Shows(shown, cell) => show_core(core) == shown && core.memory().first() == Some(&cell),
     }
 }
 
 /// How many of the steps have their outcomes, one after another, up to the first that has another.
-fn gone(core: &mut Core<Global>, steps: &[Step]) -> usize {
+fn count_steps(core: &mut Core<Global>, steps: &[Step]) -> usize {
     let mut count = 0usize;
     for step in steps {
         if !goes(core, *step) {
@@ -90,7 +90,7 @@ fn check(rt: &impl Abort, alloc: Global, limit: u32, steps: &[Step]) -> Result<(
     requires { limit ≤ most_entries }
 {
     let mut core = opening(alloc, &[], limit)?;
-    equal(rt, &"steps", &gone(&mut core, steps), &steps.len());
+    equal(rt, &"steps", &count_steps(&mut core, steps), &steps.len());
     Ok(())
 }
 

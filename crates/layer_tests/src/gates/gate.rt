@@ -165,7 +165,7 @@ fn goes_anew(alloc: Global, monoids: &[Monoid], limit: u32, asks: Asks<'_>) -> b
 type Run<'a> = (&'a [Monoid], &'a [Asked]);
 
 /// Of how many programs each act, by its strand, is answered by what stands beside it, up to the first of which one is not.
-fn answered(alloc: Global, runs: &[Run<'_>]) -> usize {
+fn count_answered(alloc: Global, runs: &[Run<'_>]) -> usize {
     let mut count = 0usize;
     for (monoids, acts) in runs {
         if !goes_anew(alloc, monoids, 1_000_000, Asks::Acts(acts)) {
@@ -314,8 +314,13 @@ const RUNS: &[Run<'static>] = &[
 
 #[test]
 fn accesses_race_where_no_path_joins_their_strands(rt: HostRuntime) {
-    equal(&rt, &"cells", &answered(rt.alloc(), RUNS), &RUNS.len());
-    let found = answered(rt.alloc(), reducers::RUNS);
+    equal(
+        &rt,
+        &"cells",
+        &count_answered(rt.alloc(), RUNS),
+        &RUNS.len(),
+    );
+    let found = count_answered(rt.alloc(), reducers::RUNS);
     equal(&rt, &"reducers", &found, &reducers::RUNS.len());
 }
 

@@ -31,7 +31,7 @@ const LATE_PAIR: &[u8] =
 const PARTS: u64 = 64;
 
 // How many of the receipts are answered Finished.
-fn finished_in(receipts: &Receipts) -> usize {
+fn count_finished(receipts: &Receipts) -> usize {
     let mut finished = 0usize;
     for at in 0..receipts.len() {
         if receipts.get(at).answer == Answer::Finished {
@@ -47,7 +47,7 @@ fn count_receipts<L: Ledger>(logs: &[WorkerLog<L>]) -> (usize, usize) {
     let mut finished = 0usize;
     for log in logs {
         receipts = receipts.wrapping_add(log.receipts.len());
-        finished = finished.wrapping_add(finished_in(&log.receipts));
+        finished = finished.wrapping_add(count_finished(&log.receipts));
     }
     (receipts, finished)
 }

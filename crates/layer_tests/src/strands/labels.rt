@@ -119,7 +119,7 @@ fn goes(strands: &mut Strands<Global>, step: Step) -> bool {
 }
 
 /// How many of the steps have their outcomes, one after another, up to the first that has another.
-fn gone(strands: &mut Strands<Global>, steps: &[Step]) -> usize {
+fn count_steps(strands: &mut Strands<Global>, steps: &[Step]) -> usize {
     let mut count = 0usize;
     for step in steps {
         if !goes(strands, *step) {
@@ -133,7 +133,12 @@ fn gone(strands: &mut Strands<Global>, steps: &[Step]) -> usize {
 /// Takes the steps with new strands.
 fn check(rt: &impl Abort, alloc: Global, steps: &[Step]) -> Result<(), Fail> {
     let mut strands = Strands::new(alloc)?;
-    equal(rt, &"steps", &gone(&mut strands, steps), &steps.len());
+    equal(
+        rt,
+        &"steps",
+        &count_steps(&mut strands, steps),
+        &steps.len(),
+    );
     Ok(())
 }
 

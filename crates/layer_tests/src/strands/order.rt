@@ -125,7 +125,7 @@ fn goes(list: &mut OrderList<Global>, step: Step) -> bool {
 }
 
 /// How many of the steps have their outcomes, one after another, up to the first that has another.
-fn gone(list: &mut OrderList<Global>, steps: &[Step]) -> usize {
+fn count_steps(list: &mut OrderList<Global>, steps: &[Step]) -> usize {
     let mut count = 0usize;
     for step in steps {
         if !goes(list, *step) {
@@ -139,7 +139,7 @@ fn gone(list: &mut OrderList<Global>, steps: &[Step]) -> usize {
 /// Takes the steps with a new list.
 fn check(rt: &impl Abort, alloc: Global, steps: &[Step]) -> Result<(), AllocError> {
     let mut list = OrderList::new(alloc)?;
-    equal(rt, &"steps", &gone(&mut list, steps), &steps.len());
+    equal(rt, &"steps", &count_steps(&mut list, steps), &steps.len());
     Ok(())
 }
 

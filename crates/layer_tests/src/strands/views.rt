@@ -11,7 +11,7 @@ use std::process::Abort;
 use std::test::Fail;
 
 /// What a get gives after a put and two updates.
-fn gathered(monoid: Monoid, numbers: [u64; 3]) -> Option<u64> {
+fn gather(monoid: Monoid, numbers: [u64; 3]) -> Option<u64> {
     let [put, first, second] = numbers;
     let view = combine(monoid, of_put(monoid, put), of_update(monoid, first));
     value(combine(monoid, view, of_update(monoid, second)))
@@ -20,7 +20,7 @@ fn gathered(monoid: Monoid, numbers: [u64; 3]) -> Option<u64> {
 /// A get gives the number after the put and two updates before it.
 fn check_gathered(rt: &impl Abort, cases: &[(Monoid, [u64; 3], u64)]) {
     for (monoid, numbers, wanted) in cases {
-        equal(rt, monoid, &gathered(*monoid, *numbers), &Some(*wanted));
+        equal(rt, monoid, &gather(*monoid, *numbers), &Some(*wanted));
     }
 }
 
@@ -205,7 +205,7 @@ fn goes(run: &mut Run, step: Step) -> bool {
 }
 
 /// How many of the steps have their outcomes, one after another, up to the first that has another.
-fn gone(run: &mut Run, steps: &[Step]) -> usize {
+fn count_steps(run: &mut Run, steps: &[Step]) -> usize {
     let mut count = 0usize;
     for step in steps {
         if !goes(run, *step) {
@@ -229,7 +229,7 @@ fn check(
         count: monoids.len(),
     };
     equal(rt, &"room", &run.views.has_room(), &false);
-    equal(rt, &"steps", &gone(&mut run, steps), &steps.len());
+    equal(rt, &"steps", &count_steps(&mut run, steps), &steps.len());
     Ok(())
 }
 

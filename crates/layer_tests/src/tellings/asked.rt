@@ -28,7 +28,12 @@ pub fn answers(gate: &mut Gate<Global>, deeds: &[Deed]) -> bool {
 }
 
 /// A gate of so many cells and of these reducers that was asked for these acts, or nothing where it does not answer one.
-pub fn asked(alloc: Global, cells: u32, monoids: &[Monoid], deeds: &[Deed]) -> Option<Gate<Global>>
+pub fn ask_gate(
+    alloc: Global,
+    cells: u32,
+    monoids: &[Monoid],
+    deeds: &[Deed],
+) -> Option<Gate<Global>>
     requires cells { cells ≤ most_cells }
     requires reducers { length monoids.now ≤ most_reducers }
 {

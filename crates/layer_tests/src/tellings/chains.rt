@@ -3,7 +3,7 @@
 ghost use Rattle.std.specs.Prelude.{◌≤◌, IfSome};
 ghost use Rattle.race_pairs.specs.Lineages.{IsLineage};
 
-use super::asked::{Deed, asked};
+use super::asked::{Deed, ask_gate};
 use Act::{Bump, Call, Return, Spawn, Sync};
 use race_gate::Gate;
 use race_pairs::Lineage;
@@ -90,7 +90,7 @@ fn are_enclosed(alloc: Global, gate: &Gate<Global>, cases: &[Enclosed<'_>]) -> b
 
 /// Whether a gate that is asked for these acts answers them, and then the partings are so, and what encloses entries.
 fn are_told(alloc: Global, deeds: &[Deed], parted: &[Parted], enclosed: &[Enclosed<'_>]) -> bool {
-    match asked(alloc, 1, &[], deeds) {
+    match ask_gate(alloc, 1, &[], deeds) {
         Some(gate) => they_part(alloc, &gate, parted) && are_enclosed(alloc, &gate, enclosed),
         None => false,
     }

@@ -1,6 +1,6 @@
 //! A worked history, drawn.
 
-use super::asked::{Deed, asked};
+use super::asked::{Deed, ask_gate};
 use super::texts::is_text;
 use dag_drawing::{Form, Names, draw, write_drawing};
 use race_gate::{Entry, Gate};
@@ -10,7 +10,7 @@ use text_words::{Act, Monoid, Monoids, Name, Reducer, Request, Shape};
 use trace_notes::Notes;
 
 /// The text of the drawing of the gate's history, with these reducers and the notes of this text.
-fn drawn(
+fn draw_history(
     alloc: Global,
     gate: &Gate<Global>,
     reducers: &[Reducer],
@@ -44,7 +44,7 @@ fn is_drawn(
         monoid: Monoid::Sum,
         line: 1,
     }];
-    let text = drawn(alloc, gate, &reducers, noted, form)?;
+    let text = draw_history(alloc, gate, &reducers, noted, form)?;
     is_text(rt, text.as_slice(), wanted);
     Ok(())
 }
@@ -58,7 +58,7 @@ fn draws(
     form: Form,
     wanted: &str,
 ) -> bool {
-    match asked(alloc, 0, &[Monoid::Sum], deeds) {
+    match ask_gate(alloc, 0, &[Monoid::Sum], deeds) {
         Some(gate) => is_drawn(rt, alloc, &gate, noted, form, wanted).is_ok(),
         None => false,
     }

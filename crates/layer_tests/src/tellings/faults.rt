@@ -202,7 +202,7 @@ fn faults_of_traces(rt: HostRuntime) {
 }
 
 /// A trace in which one line stands so often.
-fn repeated(alloc: Global, line: &[u8], count: u32) -> Result<Vec<u8>, AllocError> {
+fn repeat_line(alloc: Global, line: &[u8], count: u32) -> Result<Vec<u8>, AllocError> {
     let mut text = Vec::new(alloc);
     text.extend_from_slice(b"cilk 1\n")?;
     for _ in 0..count {
@@ -213,7 +213,7 @@ fn repeated(alloc: Global, line: &[u8], count: u32) -> Result<Vec<u8>, AllocErro
 
 /// What is told behind the first 20 faults of a text is the last line alone.
 fn is_cut(rt: &impl Abort, alloc: Global, count: u32, wanted: &str) -> Result<(), AllocError> {
-    let text = repeated(alloc, b"syn 0\n", count)?;
+    let text = repeat_line(alloc, b"syn 0\n", count)?;
     let bytes = text.as_slice();
     match Trace::parse(alloc, bytes) {
         Err(TextFault::At { line, why }) => {

@@ -71,7 +71,7 @@ const PASSED: &[Passed<'static>] = &[(
 )];
 
 /// The first two lines of a program, and this line so many times.
-fn repeated(alloc: Global, line: &str, count: u32) -> Result<Vec<u8>, AllocError> {
+fn repeat_line(alloc: Global, line: &str, count: u32) -> Result<Vec<u8>, AllocError> {
     let mut text = Vec::new(alloc);
     text.extend_from_slice(b"cilk 1\nfunc main z\n")?;
     for _ in 0..count {
@@ -84,7 +84,7 @@ fn repeated(alloc: Global, line: &str, count: u32) -> Result<Vec<u8>, AllocError
 /// The last of so many lines passes a limit, and this is told of it.
 fn is_passed(rt: &impl Abort, alloc: Global, passed: &Passed<'_>) -> Result<(), AllocError> {
     let (line, count, wanted) = passed;
-    let text = repeated(alloc, line, *count)?;
+    let text = repeat_line(alloc, line, *count)?;
     let number = (*count).saturating_add(2);
     let words = str::from_utf8(text.as_slice()).unwrap_or("");
     is_told(

@@ -4,7 +4,7 @@ ghost use Rattle.std.specs.Prelude.{List, IfSome};
 ghost use Rattle.model_histories.specs.declared.answer.Entry.{Entry};
 ghost use Rattle.race_pairs.specs.Digests.{IsDigest};
 
-use super::asked::{Deed, answers, asked};
+use super::asked::{Deed, answers, ask_gate};
 use super::openings::gate_of;
 use Act::{Call, Get, Put, Read, Return, Spawn, Write};
 use model_accesses::Kind;
@@ -79,7 +79,7 @@ struct Known<'a> {
     open: Option<Open>,
 }
 
-fn parted(met: &Encounter) -> Option<Parted> {
+fn parting_of(met: &Encounter) -> Option<Parted> {
     match met.parting {
         Some(found) => Some((found.entry, found.by_child, found.by_next)),
         None => None,
@@ -103,7 +103,7 @@ fn open(met: &Encounter) -> Option<Open> {
 fn is_known(met: &Encounter, known: &Known<'_>) -> bool {
     met.chain.as_slice() == known.chain
         && met.witness_chain.as_slice() == known.witness_chain
-        && parted(met) == known.parted
+        && parting_of(met) == known.parted
         && met.onward == known.onward
         && open(met) == known.open
 }
@@ -140,7 +140,7 @@ type Case<'a> = (&'a [Deed], &'a [Pair], Told<'a>);
 
 /// Whether a gate that is asked for these acts has these pairs, and this is told of the last one.
 fn is_found(alloc: Global, deeds: &[Deed], pairs: &[Pair], told: &Told<'_>) -> bool {
-    let Some(gate) = asked(alloc, 2, &[Monoid::Sum], deeds) else {
+    let Some(gate) = ask_gate(alloc, 2, &[Monoid::Sum], deeds) else {
         return false;
     };
     match digest_of(alloc, &gate) {
@@ -307,7 +307,7 @@ fn are_groups(groups: &[Group], wanted: &[Grouped<'_>]) -> bool {
 
 /// Whether the races of what a gate was asked for have these groups.
 fn is_grouped(alloc: Global, deeds: &[Deed], wanted: &[Grouped<'_>]) -> bool {
-    let Some(gate) = asked(alloc, 2, &[Monoid::Sum], deeds) else {
+    let Some(gate) = ask_gate(alloc, 2, &[Monoid::Sum], deeds) else {
         return false;
     };
     let Some(digest) = digest_of(alloc, &gate) else {
@@ -358,7 +358,7 @@ fn has_lines(digest: &Digest) -> bool {
 
 /// Whether the digest of what a gate was asked for has these lines.
 fn are_known(alloc: Global, deeds: &[Deed]) -> bool {
-    let Some(gate) = asked(alloc, 2, &[Monoid::Sum], deeds) else {
+    let Some(gate) = ask_gate(alloc, 2, &[Monoid::Sum], deeds) else {
         return false;
     };
     match digest_of(alloc, &gate) {
@@ -439,7 +439,7 @@ fn has_first(digest: &Digest) -> bool {
 #[test]
 fn more_than_twenty_pairs(rt: HostRuntime) {
     let alloc = rt.alloc();
-    let gate = asked(alloc, 2, &[Monoid::Sum], MANY);
+    let gate = ask_gate(alloc, 2, &[Monoid::Sum], MANY);
     let digest = match &gate {
         Some(gate) => digest_of(alloc, gate),
         None => None,

@@ -15,7 +15,7 @@ use trace_text::{Trace, cell_name};
 pub type Given<T> = Result<T, (u32, Cause)>;
 
 /// What was given, or none where memory was refused.
-pub fn told<T: Drop>(found: Result<T, TextFault>) -> Option<Given<T>> {
+pub fn reading_of<T: Drop>(found: Result<T, TextFault>) -> Option<Given<T>> {
     match found {
         Ok(given) => Some(Ok(given)),
         Err(TextFault::At { line, why }) => Some(Err((line, why))),
@@ -37,7 +37,7 @@ pub fn read(alloc: Global, form: Form, text: &[u8]) -> Option<Given<()>> {
         Form::Program => Program::parse(alloc, text).err(),
     };
     match fault {
-        Some(fault) => told(Err(fault)),
+        Some(fault) => reading_of(Err(fault)),
         None => Some(Ok(())),
     }
 }

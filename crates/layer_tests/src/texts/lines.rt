@@ -29,7 +29,7 @@ fn says(alloc: Global, scope: &NameScope<'_, '_, Global>, line: &[u8], wanted: &
 }
 
 /// How many lines say what is shown beside them in this scope, up to the first that does not.
-fn said(alloc: Global, scope: &NameScope<'_, '_, Global>, cases: &[Line]) -> usize {
+fn count_said(alloc: Global, scope: &NameScope<'_, '_, Global>, cases: &[Line]) -> usize {
     let mut count = 0usize;
     for (line, wanted) in cases {
         if !says(alloc, scope, line, wanted) {
@@ -50,7 +50,7 @@ fn functions(alloc: Global) -> Result<FunctionNames<'static, Global>, AllocError
 
 /// The same in a text of that version that declares nothing, where these functions are named, of which the first has begun, and the
 /// registers `n` and `t`.
-fn said_beside(
+fn count_said_beside(
     alloc: Global,
     version: Version,
     functions: &FunctionNames<'_, Global>,
@@ -59,23 +59,23 @@ fn said_beside(
     let names = Names::new(alloc, version);
     let registers = [Name::new("n"), Name::new("t")];
     let scope = NameScope::new(&names, functions, 1, &registers);
-    said(alloc, &scope, cases)
+    count_said(alloc, &scope, cases)
 }
 
 /// The same where the functions are `main` and `fib`.
-fn said_inside(alloc: Global, version: Version, cases: &[Line]) -> usize {
+fn count_said_inside(alloc: Global, version: Version, cases: &[Line]) -> usize {
     match functions(alloc) {
-        Ok(functions) => said_beside(alloc, version, &functions, cases),
+        Ok(functions) => count_said_beside(alloc, version, &functions, cases),
         Err(_) => 0,
     }
 }
 
 /// The same where no function is named and no register.
-fn said_outside(alloc: Global, cases: &[Line]) -> usize {
+fn count_said_outside(alloc: Global, cases: &[Line]) -> usize {
     let functions = FunctionNames::new(alloc);
     let names = Names::new(alloc, Version::One);
     let scope = NameScope::new(&names, &functions, 0, &[]);
-    said(alloc, &scope, cases)
+    count_said(alloc, &scope, cases)
 }
 
 /// Statements of the first version.
@@ -144,10 +144,10 @@ const KINDS: &[Line] = &[
 
 #[test]
 fn lines(rt: HostRuntime) {
-    let first = said_inside(rt.alloc(), Version::One, FIRST);
-    let second = said_inside(rt.alloc(), Version::Two, SECOND);
-    let causes = said_inside(rt.alloc(), Version::One, CAUSES);
-    let kinds = said_outside(rt.alloc(), KINDS);
+    let first = count_said_inside(rt.alloc(), Version::One, FIRST);
+    let second = count_said_inside(rt.alloc(), Version::Two, SECOND);
+    let causes = count_said_inside(rt.alloc(), Version::One, CAUSES);
+    let kinds = count_said_outside(rt.alloc(), KINDS);
     let wanted = [FIRST.len(), SECOND.len(), CAUSES.len(), KINDS.len()];
     equal(&rt, &"lines", &[first, second, causes, kinds], &wanted);
 }
@@ -163,7 +163,7 @@ fn prints(alloc: Global, function: &str, statement: &Statement, wanted: &str) ->
 }
 
 #[test]
-fn printed(rt: HostRuntime) {
+fn prints_statements(rt: HostRuntime) {
     let difference = Statement::Let {
         line: 2,
         register: at(2),

@@ -1,6 +1,6 @@
 //! Traces that are read in pieces.
 
-use super::checks::{Given, told};
+use super::checks::{Given, reading_of};
 use crate::checks::equal;
 use std::alloc::Global;
 use std::process::Abort;
@@ -8,7 +8,7 @@ use text_words::{Cause, TextFault};
 use trace_text::BegunTrace;
 
 /// Where the first request of a head ends, if it has one.
-fn begun_by(alloc: Global, head: &[u8]) -> Result<Option<usize>, TextFault> {
+fn find_begin(alloc: Global, head: &[u8]) -> Result<Option<usize>, TextFault> {
     match BegunTrace::begin(alloc, head) {
         Ok(Some((_, end))) => Ok(Some(end)),
         Ok(None) => Ok(None),
@@ -31,7 +31,12 @@ const HEADS: &[Head] = &[
 /// The whole lines at the head are read, where a request stands among them.
 fn check_heads(rt: &impl Abort, alloc: Global, cases: &[Head]) {
     for (head, wanted) in cases {
-        equal(rt, head, &told(begun_by(alloc, head)), &Some(*wanted));
+        equal(
+            rt,
+            head,
+            &reading_of(find_begin(alloc, head)),
+            &Some(*wanted),
+        );
     }
 }
 
@@ -62,7 +67,7 @@ const PIECES: &[Piece] = &[
 /// Lines go on where they ended, and a fault has the number of its line among all.
 fn check_pieces(rt: &impl Abort, alloc: Global, cases: &[Piece]) {
     for (piece, whole, tail, wanted) in cases {
-        let found = told(requests(alloc, piece, tail, *whole));
+        let found = reading_of(requests(alloc, piece, tail, *whole));
         equal(rt, piece, &found, &Some(*wanted));
     }
 }

@@ -5,7 +5,7 @@ use program_text::Program;
 use std::alloc::{AllocError, Global};
 
 /// All that is read of a program, as it is shown: no two programs are shown alike.
-fn shown(alloc: Global, program: &Program<Global>) -> Result<String, AllocError> {
+fn show_program(alloc: Global, program: &Program<Global>) -> Result<String, AllocError> {
     let (mems, reducers) = (program.mems.as_slice(), program.reducers.as_slice());
     let head = (program.version, program.main(), mems, reducers);
     let mut text = format!(in alloc; "{head:?}")?;
@@ -28,7 +28,7 @@ fn is_printed(alloc: Global, program: &Program<Global>, plain: &[u8]) -> bool {
 
 /// Whether two programs are one.
 fn are_one(alloc: Global, program: &Program<Global>, other: &Program<Global>) -> bool {
-    match (shown(alloc, program), shown(alloc, other)) {
+    match (show_program(alloc, program), show_program(alloc, other)) {
         (Ok(found), Ok(wanted)) => found.as_str() == wanted.as_str(),
         _ => false,
     }
@@ -66,7 +66,7 @@ const PROGRAMS: &[(&[u8], &[u8])] = &[
 
 /// What is printed means the same program.
 #[test]
-fn printed(rt: HostRuntime) {
+fn prints_each_program(rt: HostRuntime) {
     for (text, plain) in PROGRAMS {
         equal(&rt, text, &prints(rt.alloc(), text, plain), &true);
     }

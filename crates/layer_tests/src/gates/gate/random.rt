@@ -10,7 +10,7 @@ use race_gate::{Answer, Entry, Gate};
 use std::alloc::Global;
 use text_words::{Act, Monoid, Request};
 
-fn drawn_monoid(choice: u32) -> Monoid {
+fn choose_monoid(choice: u32) -> Monoid {
     match choice {
         0 => Monoid::Sum,
         1 => Monoid::Min,
@@ -21,7 +21,7 @@ fn drawn_monoid(choice: u32) -> Monoid {
 }
 
 /// An act that is legal, in a block or not.
-fn drawn_act(choice: u32, place: u32, value: u64, is_in_block: bool) -> Act {
+fn choose_act(choice: u32, place: u32, value: u64, is_in_block: bool) -> Act {
     match choice {
         0..=3 => Act::Spawn,
         4..=6 if is_in_block => Act::Sync,
@@ -120,7 +120,7 @@ fn play_one(gate: &mut Gate<Global>, dag: &mut Dag, state: u64) -> u64 {
     let (value, state_next) = draw(state_place, 1_000);
     let strand = dag.pick(which % 7);
     if !gate.is_finished() && (strand != 0 || choice <= 3 || choice >= 8) {
-        let act = drawn_act(choice, place, u64::from(value), dag.is_in_block(strand));
+        let act = choose_act(choice, place, u64::from(value), dag.is_in_block(strand));
         ask(gate, dag, strand, act);
     }
     state_next
@@ -156,7 +156,7 @@ pub(super) fn agrees_in(
 fn agrees(alloc: Global, seed: u64) -> bool {
     let (first, state_first) = draw(seed, 5);
     let (second, state) = draw(state_first, 5);
-    let monoids = [drawn_monoid(first), drawn_monoid(second)];
+    let monoids = [choose_monoid(first), choose_monoid(second)];
     goes_anew(alloc, &monoids, 1_000, Asks::Drawn(seed, state))
 }
 

@@ -19,7 +19,7 @@ pub fn answer_to_read(
         _ => return None,
     };
     if differs(dag, earlier, reducer, strand) {
-        return Some(refused(earlier, reducer));
+        return Some(refuse_read(earlier, reducer));
     }
     match act {
         Act::Get(_) => Some(answer_to_get(dag, earlier, monoids, strand, reducer)),
@@ -67,7 +67,7 @@ fn differs(dag: &Dag, earlier: &[Entry], reducer: u32, strand: u32) -> bool {
 }
 
 /// The refusal by the first read of the reducer.
-fn refused(earlier: &[Entry], reducer: u32) -> Answer {
+fn refuse_read(earlier: &[Entry], reducer: u32) -> Answer {
     let mut number = 0u32;
     for entry in earlier {
         number = number.wrapping_add(1);
@@ -167,14 +167,14 @@ fn value_read(dag: &Dag, earlier: &[Entry], monoid: Monoid, read: Read) -> u64 {
         let Some(update) = next_update(dag, earlier, read, last) else {
             break;
         };
-        value = combined_once(monoid, value, update.number);
+        value = combine_once(monoid, value, update.number);
         last = Some(update);
     }
     value
 }
 
 /// What a further update makes of a value.
-fn combined_once(monoid: Monoid, value: u64, number: u64) -> u64 {
+fn combine_once(monoid: Monoid, value: u64, number: u64) -> u64 {
     match monoid {
         Monoid::Sum => value.wrapping_add(number),
         Monoid::Min => value.min(number),

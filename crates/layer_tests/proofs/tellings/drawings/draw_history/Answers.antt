@@ -1,7 +1,7 @@
 use Rattle.std.proofs.Common.{List, sym, subst}
 use Rattle.model_histories.specs.declared.answer.Entry.{Entry}
 use Rattle.model_histories.specs.Legal.{IsLegal}
-use Rattle.layer_tests.proofs.tellings.drawings.drawn.Goals as goal
+use Rattle.layer_tests.proofs.tellings.drawings.draw_history.Goals as goal
 
 pub draw-requires : goal.draw-requires
 draw-requires c = (
