@@ -4,7 +4,7 @@ use Rattle.std.specs.Io.KnownBytes.{Consumes, IsAtEnd}
 use Rattle.text_words.specs.Values.{Contents}
 use Rattle.trace_text.specs.Grammar.{TextMeans}
 use Rattle.trace_text.specs.Traces.{contents}
-use Rattle.command_streams.specs.declared.kept.Behind.{Behind}
+use Rattle.command_streams.specs.declared.kept.Tail.{Tail}
 use Rattle.command_streams.specs.declared.kept.KeptText.{KeptText}
 use Rattle.command_streams.specs.declared.kept.KeptText.TheVariants.{Whole, Plain}
 use Rattle.command_streams.specs.Watched.{IsCalledAtMost}
@@ -36,12 +36,12 @@ pub record HasReadRequests {A : Type 0} (old new : Progress A) (called calls : �
   pub called_few : ended ≡ false → IsCalledAtMost ((new.done + length new.waiting) - (old.done + length old.waiting)) called calls
 
 -- All that was read, by what was found behind the head.
-abbrev pub restored : {A : Type 0} → (head : List ℕ) → Behind A → List ℕ
+abbrev pub restored : {A : Type 0} → (head : List ℕ) → Tail A → List ℕ
 restored head found = rejoined (take found.end head) found.count (contents found.trace) ++ found.waiting.items
 
 -- What was read behind the head. The whole lines of the head are that of a plain text, and what is restored is the head and what was read
 -- behind it.
-pub record IsReadBehind {A : Type 0} (head : List ℕ) (before now : Option (List ℕ)) (called calls : ℕ) (found : Behind A) : Type 0 where
+pub record IsReadBehind {A : Type 0} (head : List ℕ) (before now : Option (List ℕ)) (called calls : ℕ) (found : Tail A) : Type 0 where
   pub within : found.end ≤ length head
   pub plain : IsPlainText (take found.end head) found.count (contents found.trace)
   pub more : List ℕ

@@ -67,7 +67,7 @@ pub enum KeptText<A: Allocator> {
 }
 
 /// What was read behind the head of a text.
-struct Behind<A: Allocator> {
+struct Tail<A: Allocator> {
     /// The trace of the whole lines that were read, those of the head among them.
     trace: Trace<A>,
     /// How many bytes of the head are whole lines.
@@ -81,9 +81,9 @@ struct Behind<A: Allocator> {
 }
 
 /// Written out, so that what lets it go calls one function.
-impl<A: Allocator> Drop for Behind<A> {
+impl<A: Allocator> Drop for Tail<A> {
     fn drop(self) {
-        let Behind {
+        let Tail {
             trace: _,
             end: _,
             count: _,
@@ -93,12 +93,12 @@ impl<A: Allocator> Drop for Behind<A> {
     }
 }
 
-impl<A: Allocator> Behind<A> {
+impl<A: Allocator> Tail<A> {
     /// The trace, and how many of its requests stand in the head.
     fn into_parts(self) -> (Trace<A>, usize)
         ensures { (result.0 ≡ self.trace) × (result.1 ≡ self.count) }
     {
-        let Behind {
+        let Tail {
             trace,
             end: _,
             count,
@@ -159,7 +159,7 @@ fn read_behind<A: Allocator + Copy, R: Read>(
     input: &mut Watched<R>,
     piece: &mut [u8],
     head: &[u8],
-) -> Result<Option<Behind<A>>, CliFault>
+) -> Result<Option<Tail<A>>, CliFault>
     requires fresh { has_failed input.old ≡ false }
     requires room { 0 < length piece.old }
     requires short { length head.now ≤ most_bytes }
@@ -176,7 +176,7 @@ fn read_behind<A: Allocator + Copy, R: Read>(
             let count = begun.request_count();
             let mut waiting = copy_behind(alloc, head, end)?;
             let is_ended = read_plain(input, piece, &mut begun, end, &mut waiting)?;
-            Ok(Some(Behind {
+            Ok(Some(Tail {
                 trace: begun.into_trace(),
                 end,
                 count,
@@ -193,7 +193,7 @@ fn read_behind<A: Allocator + Copy, R: Read>(
 fn restore<A: Allocator + Copy>(
     alloc: A,
     head: &mut Vec<u8, A>,
-    found: Behind<A>,
+    found: Tail<A>,
 ) -> Result<(), AllocError>
     ensures { OnOk result (head.new.items ≡ restored head.old.items found) }
 {
@@ -228,7 +228,7 @@ fn keep_found<A: Allocator + Copy, R: Read>(
     input: &mut Watched<R>,
     piece: &mut [u8],
     mut head: Vec<u8, A>,
-    found: Behind<A>,
+    found: Tail<A>,
 ) -> Result<KeptText<A>, CliFault>
     requires fresh { has_failed input.old ≡ false }
     requires room { 0 < length piece.old }
