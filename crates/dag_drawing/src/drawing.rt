@@ -141,7 +141,7 @@ fn races_of<A: Allocator + Copy>(alloc: A, entries: &[Entry]) -> Result<Vec<Race
 }
 
 /// The numbers that are marked, in their order.
-fn marked_numbers<A: Allocator + Copy>(
+fn collect_marked<A: Allocator + Copy>(
     alloc: A,
     marks: &[bool],
 ) -> Result<Vec<usize, A>, AllocError>
@@ -183,7 +183,7 @@ pub fn draw<A: Allocator + Copy>(
     ensures { IfOk result (λ told. MatchOption told (HasMoreStrands (control_part (reverse entries.now))) (IsDrawing entries.now)) }
 {
     let walk = walk_entries(alloc, entries)?;
-    let strands = marked_numbers(alloc, walk.begun.as_slice())?;
+    let strands = collect_marked(alloc, walk.begun.as_slice())?;
     if strands.len() > MOST_STRANDS {
         return Ok(None);
     }

@@ -239,7 +239,7 @@ fn add_rest<A: Allocator + Copy>(
 }
 
 /// The accesses that are told.
-fn told_of(own: &[Access]) -> &[Access]
+fn first_accesses(own: &[Access]) -> &[Access]
     ensures { result.now ≡ take most_told own.now }
 {
     if own.len() > MOST_TOLD {
@@ -262,7 +262,7 @@ pub fn node_lines<A: Allocator + Copy>(
 {
     let mut lines = Vec::new(alloc);
     lines.push(head_line(alloc, names, strand, own)?)?;
-    add_accesses(alloc, &mut lines, names, told_of(own))?;
+    add_accesses(alloc, &mut lines, names, first_accesses(own))?;
     add_rest(alloc, &mut lines, own.len())?;
     Ok(lines)
 }

@@ -287,7 +287,7 @@ fn scale(count: u64, way: u16) -> u64
 
 impl<A: Allocator> Layout<A> {
     /// The left end of a strand's box, with each level in the middle.
-    pub fn left(&self, strand: usize) -> u64
+    pub fn left_edge(&self, strand: usize) -> u64
         ensures value { result ≡ left_at (plan_of self.now) strand }
         ensures bound { result < 2 ^ 51 }
     {
@@ -311,7 +311,7 @@ impl<A: Allocator> Layout<A> {
         ensures value { result ≡ middle_at (plan_of self.now) strand }
         ensures bound { result < 2 ^ 52 }
     {
-        self.left(strand) + u64::from(self.measures.half)
+        self.left_edge(strand) + u64::from(self.measures.half)
     }
 
     /// The top of a strand's box.

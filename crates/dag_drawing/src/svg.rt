@@ -178,7 +178,7 @@ fn push_rect<A: Allocator>(
     ensures { OnOk result (text.new.items ≡ text.old.items ++ rect_text (plan_of layout.now) strand lines) }
 {
     push_number(text, "<g id=\"strand-", strand as u64)?;
-    let left = layout.left(strand);
+    let left = layout.left_edge(strand);
     push_numbers(text, "\">\n<rect x=\"", left, "\" y=\"", layout.top(strand))?;
     let width = layout.box_width();
     push_numbers(
@@ -203,7 +203,7 @@ fn push_node<A: Allocator>(
     push_rect(text, layout, strand, lines.len())?;
     push_number(text, "<text y=\"", layout.top(strand))?;
     push_words(text, "\">")?;
-    push_lines(text, MOST_CHARACTERS, layout.left(strand) + 8, lines)?;
+    push_lines(text, MOST_CHARACTERS, layout.left_edge(strand) + 8, lines)?;
     push_words(text, "</text>\n</g>\n")
 }
 
@@ -358,7 +358,7 @@ fn push_head<A: Allocator>(text: &mut Vec<u8, A>, width: u64, height: u64) -> Re
 }
 
 /// The lines of the title that there is room for.
-fn shown_of<A: Allocator>(runs: &[String<A>]) -> &[String<A>]
+fn first_lines<A: Allocator>(runs: &[String<A>]) -> &[String<A>]
     ensures { map string_bytes result.now ≡ take most_title_lines (map string_bytes runs.now) }
 {
     if runs.len() > usize::from(MOST_TITLE_LINES) {
@@ -377,7 +377,7 @@ fn push_title<A: Allocator>(text: &mut Vec<u8, A>, runs: &[String<A>]) -> Result
         return Ok(());
     }
     push_words(text, "<text id=\"title\" y=\"8\">")?;
-    push_lines(text, MOST_TITLE_CHARACTERS, 16, shown_of(runs))?;
+    push_lines(text, MOST_TITLE_CHARACTERS, 16, first_lines(runs))?;
     push_words(text, "</text>\n")
 }
 

@@ -138,7 +138,7 @@ fn front_of<'s, 'a>(names: &'s [&'a [u8]], count: usize) -> &'s [&'a [u8]]
 }
 
 /// The names that are lost where a line with these names is left out.
-pub(crate) fn lost_with<'s, 'a>(
+pub(crate) fn find_lost_names<'s, 'a>(
     meant: Meant,
     opening: Opening,
     names: &'s [&'a [u8]],

@@ -7,7 +7,7 @@ ghost use Rattle.fault_lists.specs.Doubts.{structure_of, leaves_doubt, lost_by, 
 ghost use Rattle.fault_lists.specs.FaultLists.{HasMeaning, HasFault, blanked, all_of, behind_told, Lists, Adds, ListsFaults};
 ghost use denote.Ref.{Bor};
 
-use crate::doubt::{Structure, follows, is_doubtful, lost_with, structure_of};
+use crate::doubt::{Structure, find_lost_names, follows, is_doubtful, structure_of};
 use crate::fault::{Fault, fault_of};
 use crate::names::{names_on, opening_on, opening_with};
 use source_quotes::{Meant, Source};
@@ -90,7 +90,7 @@ impl<'a> Rest<'a> {
         let names = names_on(alloc, source.line(number))?;
         let names = names.as_slice();
         self.lost
-            .extend_from_slice(lost_with(meant, opening_with(names), names))
+            .extend_from_slice(find_lost_names(meant, opening_with(names), names))
     }
 
     /// Leaves the line with this number out.

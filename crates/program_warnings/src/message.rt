@@ -14,7 +14,7 @@ ghost use Rattle.program_warnings.specs.Messages.{TellsWarning, TellsEach, more_
 
 use crate::declarations::{Declared, Sort, declarations};
 use crate::puts::reducers_put;
-use crate::reach::reached;
+use crate::reach::mark_reached;
 use crate::warning::{Warning, Wraps, warnings_of};
 use program_text::{Function, Program};
 use source_quotes::{
@@ -283,7 +283,7 @@ fn push_more(text: &mut Vec<u8>, count: usize) -> Result<(), AllocError>
 }
 
 /// What is told of these warnings.
-fn first_told(
+fn tell_first(
     alloc: Global,
     look: Look,
     file: &str,
@@ -311,7 +311,7 @@ pub fn find_warnings(
     let functions = program.functions.as_slice();
     let reducers = program.reducers.as_slice();
     let names = declarations(alloc, program.mems.as_slice(), reducers)?;
-    let marks = reached(alloc, functions, program.main())?;
+    let marks = mark_reached(alloc, functions, program.main())?;
     let put = reducers_put(alloc, functions, marks.as_slice(), reducers.len())?;
     let warnings = warnings_of(
         alloc,
@@ -341,5 +341,5 @@ pub fn program_warnings(
     let source = Source::new(alloc, text)?;
     let look = Look::of(is_painted, &source);
     let warnings = find_warnings(alloc, program, wraps)?;
-    first_told(alloc, look, file, &source, program, warnings.as_slice())
+    tell_first(alloc, look, file, &source, program, warnings.as_slice())
 }

@@ -70,7 +70,7 @@ fn next_of(functions: &[Function<Global>], marks: &[bool]) -> Option<u32>
 }
 
 /// Which functions are reached from `main`, which has this number.
-pub(crate) fn reached(
+pub(crate) fn mark_reached(
     alloc: Global,
     functions: &[Function<Global>],
     main: u32,

@@ -68,7 +68,7 @@ fn push_summary(account: &mut Account, scene: &Scene<'_, '_>)
 }
 
 /// Tells of the entries of a scene, of these races in these groups.
-fn entries_told(
+fn tell_entries(
     alloc: Global,
     scene: &Scene<'_, '_>,
     extent: Extent,
@@ -107,7 +107,7 @@ fn explain_entries(
 {
     let cases = cases_of(alloc, scene.digest)?;
     let groups = group_races(alloc, scene.digest.races())?;
-    entries_told(alloc, scene, extent, cases.as_slice(), groups.as_slice())
+    tell_entries(alloc, scene, extent, cases.as_slice(), groups.as_slice())
 }
 
 /// Explains the entries of a run of a program to a person, of which this is the digest. The text tells each pair of lines that raced, in

@@ -22,7 +22,7 @@ ghost use Rattle.race_records.specs.SummaryViews.{summary_parts};
 use crate::form::{RecordForm, record_text};
 use crate::race::case_value;
 use crate::value::{size_or_null, texts_value, with_copy};
-use crate::warning::{Warned, none_warned, warned_in};
+use crate::warning::{Warned, none_warned, tell_warnings_in};
 use program_text::Program;
 use program_warnings::Wraps;
 use race_explanations::{Case, Extent, Scene, cases_of, is_group_sure, program_scene, trace_scene};
@@ -256,7 +256,7 @@ pub fn run_record<'s>(
 {
     let source = Source::new(alloc, text)?;
     let scene = program_scene(false, file, &source, program, digest);
-    let warned = warned_in(alloc, file, &source, program, wraps)?;
+    let warned = tell_warnings_in(alloc, file, &source, program, wraps)?;
     entries_record(
         alloc,
         form,

@@ -111,7 +111,7 @@ pub(crate) fn none_warned(alloc: Global) -> Warned
 }
 
 /// What is told of these warnings of a program.
-fn warned_by(
+fn tell_warnings(
     alloc: Global,
     file: &str,
     source: &Source<'_>,
@@ -130,7 +130,7 @@ fn warned_by(
 }
 
 /// What is told of the warnings of a program, where a run of it wraps these indexes.
-pub(crate) fn warned_in(
+pub(crate) fn tell_warnings_in(
     alloc: Global,
     file: &str,
     source: &Source<'_>,
@@ -141,5 +141,5 @@ pub(crate) fn warned_in(
         warned_of file.now source.now (contents program.now) warnings)) }
 {
     let found = find_warnings(alloc, program, wraps)?;
-    warned_by(alloc, file, source, program, found.as_slice())
+    tell_warnings(alloc, file, source, program, found.as_slice())
 }

@@ -133,17 +133,17 @@ fn title_of(rendered: &str) -> &str
 }
 
 /// What a person is told, as a block of code of Markdown.
-fn quoted(alloc: Global, rendered: &str) -> Result<String, AllocError>
+fn quote_rendered(alloc: Global, rendered: &str) -> Result<String, AllocError>
     ensures { IfOk result (λ text. string_bytes text ≡ quoted rendered.now) }
 {
     ["```\n", rendered, "```"].concat(alloc)
 }
 
 /// A message in words, and as a person is told it.
-fn told_twice(alloc: Global, words: &str, rendered: &str) -> Result<Value, AllocError>
+fn tell_twice(alloc: Global, words: &str, rendered: &str) -> Result<Value, AllocError>
     ensures { IfOk result (λ value. view value ≡ told_twice words.now rendered.now) }
 {
-    let markdown = quoted(alloc, rendered)?;
+    let markdown = quote_rendered(alloc, rendered)?;
     Object::new(alloc)
         .with_text("text", words)
         .with("markdown", Value::from(markdown))
@@ -155,7 +155,7 @@ fn fault_message(alloc: Global, rendered: &str) -> Result<Value, AllocError>
     ensures { IfOk result (λ value. view value ≡ told_twice (fault_words rendered.now) rendered.now) }
 {
     let words = [title_of(rendered), "."].concat(alloc)?;
-    told_twice(alloc, words.as_str(), rendered)
+    tell_twice(alloc, words.as_str(), rendered)
 }
 
 /// What a fault has that no other member of a result tells.
@@ -191,7 +191,7 @@ fn illegal_message(alloc: Global, request: &Value) -> Result<Value, AllocError>
 {
     let mut words = [words_at(request, "message"), "."].concat(alloc)?;
     push_help(&mut words, text_at(request, "help"))?;
-    told_twice(alloc, words.as_str(), words_at(request, "rendered"))
+    tell_twice(alloc, words.as_str(), words_at(request, "rendered"))
 }
 
 /// What an illegal request has that no other member of a result tells.

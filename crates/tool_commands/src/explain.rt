@@ -183,7 +183,7 @@ fn behind_warnings(
 }
 
 /// What a person is told where nothing was refused.
-fn clean_text_told(
+fn tell_clean_text(
     alloc: Global,
     program: &Program<Global>,
     memory: &[u64],
@@ -243,7 +243,7 @@ fn explain_clean(
         whole.now.entries.items whole.now.memory.items told.items) }
 {
     match manner.rendering {
-        Rendering::Text => clean_text_told(alloc, program, whole.memory.as_slice()),
+        Rendering::Text => tell_clean_text(alloc, program, whole.memory.as_slice()),
         Rendering::Record(form) => {
             clean_record(alloc, form, manner, text, program, wraps, whole)
         }
@@ -251,7 +251,7 @@ fn explain_clean(
 }
 
 /// What is told of the races of a run.
-fn races_told(
+fn tell_races(
     alloc: Global,
     manner: &Manner<'_>,
     text: &[u8],
@@ -320,13 +320,13 @@ fn explain_whole(
         return Ok((told, End::Clean));
     }
     let digest = digest_of_run(alloc, &whole.entries, most_pairs(manner.extent))?;
-    let run = races_told(alloc, manner, text, program, &wraps, &digest)?;
+    let run = tell_races(alloc, manner, text, program, &wraps, &digest)?;
     let told = behind_warnings(alloc, manner, text, program, &wraps, run)?;
     Ok((told, End::Raced))
 }
 
 /// What a person is told of a run that the limit ended.
-fn cut_text_told(
+fn tell_cut_text(
     alloc: Global,
     manner: &Manner<'_>,
     text: &[u8],
@@ -352,7 +352,7 @@ fn cut_text_told(
 }
 
 /// What is told of a run that the limit ended.
-fn limit_told(
+fn tell_limit(
     alloc: Global,
     manner: &Manner<'_>,
     text: &[u8],
@@ -366,7 +366,7 @@ fn limit_told(
         TellsCut manner.now (file_of manner.now text.now (contents program.now)) (get nat_cmp wraps.now) entries told.items) }
 {
     match manner.rendering {
-        Rendering::Text => cut_text_told(alloc, manner, text, program, digest),
+        Rendering::Text => tell_cut_text(alloc, manner, text, program, digest),
         Rendering::Record(form) => run_record(
             alloc,
             form,
@@ -399,7 +399,7 @@ fn explain_unfinished(
     ensures { IfOk result (λ told. TellsEnd manner.now text.now (contents program.now) limit told.0.items told.1) }
 {
     let digest = Digest::of(alloc, entries, most_pairs(manner.extent))?;
-    let run = limit_told(alloc, manner, text, program, wraps, &digest)?;
+    let run = tell_limit(alloc, manner, text, program, wraps, &digest)?;
     let told = behind_warnings(alloc, manner, text, program, wraps, run)?;
     if refusal_status(entries) == 0 {
         return Ok((told, End::Cut));
@@ -502,7 +502,7 @@ fn explain_run<D: Door + Sync, R: Threads + Wait + Sync>(
 }
 
 /// What is told of the faults of a text.
-pub(crate) fn faults_told(
+pub(crate) fn tell_faults(
     alloc: Global,
     manner: &Manner<'_>,
     text: &[u8],
@@ -540,7 +540,7 @@ fn explain_program_text<D: Door + Sync, R: Threads + Wait + Sync>(
         Ok(program) => program,
         Err(TextFault::Memory) => return Err(CliFault::Memory),
         Err(TextFault::At { line, why }) => {
-            let told = faults_told(alloc, manner, text, Meant::Program, Fault { line, why })?;
+            let told = tell_faults(alloc, manner, text, Meant::Program, Fault { line, why })?;
             return Ok((told, 2));
         }
     };
@@ -551,7 +551,7 @@ fn explain_program_text<D: Door + Sync, R: Threads + Wait + Sync>(
 }
 
 /// What is told of a text, and the exit status.
-fn told_of<D: Door + Sync, R: Threads + Wait + Sync>(
+fn tell_source<D: Door + Sync, R: Threads + Wait + Sync>(
     rt: &R,
     alloc: Global,
     manner: &Manner<'_>,
@@ -619,7 +619,7 @@ pub fn explain_text<D: Door + Sync, P: Read, W: Write, R: Threads + Wait + Sync>
     ensures reads { IsCalledAtMost most_reads (calls_of program.old) (calls_of program.new) }
 {
     let source = read_kept(alloc, program)?;
-    let (told, status) = told_of(rt, alloc, manner, &source, workers, is_serial, door, limit)?;
+    let (told, status) = tell_source(rt, alloc, manner, &source, workers, is_serial, door, limit)?;
     write_text(output, told.as_slice())?;
     Ok(status)
 }

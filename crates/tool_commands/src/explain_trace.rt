@@ -19,7 +19,7 @@ ghost use Rattle.tool_commands.specs.Explanations.{ExplainsTrace, TellsTrace, Te
 
 use crate::ask::{Stop, ask_all};
 use crate::clean::clean_count;
-use crate::explain::{Manner, Rendering, faults_told};
+use crate::explain::{Manner, Rendering, tell_faults};
 use crate::judged::digest_of_trace;
 use crate::replay::fault_of_request;
 use command_streams::{CliFault, KeptText};
@@ -171,7 +171,7 @@ pub(crate) fn notes_of_kept(
 }
 
 /// What is told of an illegal request.
-fn illegal_told(
+fn tell_illegal(
     alloc: Global,
     manner: &Manner<'_>,
     text: &[u8],
@@ -214,7 +214,7 @@ fn explain_stop(
     let entries = gate.history();
     match find_illegality(entries, stop.request, stop.fault) {
         Some(why) => {
-            let told = illegal_told(alloc, manner, text, trace, stop.number as usize, why)?;
+            let told = tell_illegal(alloc, manner, text, trace, stop.number as usize, why)?;
             Ok(told)
         }
         None => Err(fault_of_request(stop.number, stop.fault)),
@@ -263,7 +263,7 @@ fn verdict_text(
 }
 
 /// What is told of the entries of a trace, and what was recorded.
-fn verdict_told(
+fn tell_verdict(
     alloc: Global,
     manner: &Manner<'_>,
     notes: &Notes<Global>,
@@ -297,7 +297,7 @@ fn explain_judged(
     ensures { IfOk result (λ told. IsTraceTold manner.now (text_of source.now) told.0.items told.1) }
 {
     let notes = notes_of_kept(alloc, source)?;
-    let told = verdict_told(alloc, manner, &notes, trace, digest)?;
+    let told = tell_verdict(alloc, manner, &notes, trace, digest)?;
     Ok((told, status_of(digest)))
 }
 
@@ -385,7 +385,7 @@ pub(crate) fn judge_trace(
 }
 
 /// What is told of a trace that a text means, and the exit status.
-fn digest_told(
+fn tell_digest(
     alloc: Global,
     manner: &Manner<'_>,
     source: &KeptText<Global>,
@@ -419,7 +419,7 @@ fn trace_text_by(
             let told = explain_clean_trace(alloc, source, trace, count)?;
             Ok((told, 0))
         }
-        None => digest_told(alloc, manner, source, trace),
+        None => tell_digest(alloc, manner, source, trace),
     }
 }
 
@@ -436,7 +436,7 @@ fn explain_trace(
 {
     match manner.rendering {
         Rendering::Text => trace_text_by(alloc, manner, source, trace),
-        Rendering::Record(_) => digest_told(alloc, manner, source, trace),
+        Rendering::Record(_) => tell_digest(alloc, manner, source, trace),
     }
 }
 
@@ -456,7 +456,7 @@ fn explain_whole_text(
         Ok(trace) => explain_trace(alloc, manner, source, &trace),
         Err(TextFault::Memory) => Err(CliFault::Memory),
         Err(TextFault::At { line, why }) => {
-            let told = faults_told(alloc, manner, text, Meant::Trace, Fault { line, why })?;
+            let told = tell_faults(alloc, manner, text, Meant::Trace, Fault { line, why })?;
             Ok((told, 2))
         }
     }

@@ -17,7 +17,7 @@ ghost use Rattle.race_pairs.specs.Digests.{IsDigest, most_of};
 ghost use Rattle.race_explanations.specs.Extents.{most_pairs};
 ghost use Rattle.tool_commands.specs.Together.{AddsText, TakesText, TakesReading, StopsTaking};
 
-use crate::explain::{Manner, Rendering, faults_told};
+use crate::explain::{Manner, Rendering, tell_faults};
 use crate::explain_trace::{Judged, judge_trace, notes_of_kept, push_run};
 use command_streams::{CliFault, KeptText, Watched, read_kept};
 use fault_lists::Fault;
@@ -201,7 +201,7 @@ impl Traces {
         match Trace::parse(alloc, text) {
             Ok(trace) => self.take_trace(alloc, manner, source, &trace),
             Err(TextFault::Memory) => Err(CliFault::Memory),
-            Err(TextFault::At { line, why }) => Ok(Some(faults_told(
+            Err(TextFault::At { line, why }) => Ok(Some(tell_faults(
                 alloc,
                 manner,
                 text,
@@ -261,7 +261,7 @@ impl Traces {
     }
 
     /// What a person is told of the traces together.
-    fn text_told(&self, alloc: Global, extent: Extent) -> Result<Vec<u8>, AllocError>
+    fn tell_text(&self, alloc: Global, extent: Extent) -> Result<Vec<u8>, AllocError>
         ensures { IfOk result (λ told. told.items ≡ together_text extent (together_of self.now)) }
     {
         let mut told = self.findings.to_message(alloc, extent)?;
@@ -279,7 +279,7 @@ impl Traces {
         ensures { IfOk result (λ told. TellsTogether rendering extent (together_of self.now) told.items) }
     {
         match rendering {
-            Rendering::Text => self.text_told(alloc, extent),
+            Rendering::Text => self.tell_text(alloc, extent),
             Rendering::Record(form) => {
                 self.records
                     .record(alloc, form, extent, self.runs.as_slice())

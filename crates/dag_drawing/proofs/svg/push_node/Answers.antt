@@ -11,4 +11,4 @@ returns g c =
     on_ok c.push_words-2.result _ _
     (node_pushed _ _ _ _ _ _ _ _ _ _ _ _ (rw (sym (length-map c.args.lines.now string_bytes)) at c.in_ok-push_rect.ensures)
     (rw c.top.ensures.value at c.in_ok-push_number.ensures.added) c.in_ok-push_words.ensures.added
-    (rw c.left.ensures.value at c.in_ok-push_lines.ensures)) c.push_words-2.ensures.added
+    (rw c.left_edge.ensures.value at c.in_ok-push_lines.ensures)) c.push_words-2.ensures.added

@@ -8,8 +8,8 @@ use Rattle.program_text.specs.Programs.{contents}
 use Rattle.program_warnings.proofs.Finding.{all_found}
 use Rattle.program_warnings.proofs.message.find_warnings.Goals as goal
 
-pub reached-requires-clause-sound : goal.reached-requires-clause-sound
-reached-requires-clause-sound c = (
+pub mark_reached-requires-clause-sound : goal.mark_reached-requires-clause-sound
+mark_reached-requires-clause-sound c = (
   cells_of c.args.program.now.mems,
   length c.args.program.now.reducers,
   subst (λ (functions : List Code). IsSound (cells_of c.args.program.now.mems) (length c.args.program.now.reducers) functions)

@@ -22,7 +22,7 @@ returns c =
     let extent = c.args.extent in
     let cases = c.in_ok-cases.cases.items in
     let groups = c.in_ok-groups.groups.items in
-    IfOk-weaker c.entries_told.result _ (λ told. (entries : List Entry) → IsDigest entries digest → TellsEntries setting extent entries told.items)
+    IfOk-weaker c.tell_entries.result _ (λ told. (entries : List Entry) → IsDigest entries digest → TellsEntries setting extent entries told.items)
     (λ told is entries d.
     let kept = races_now entries digest d in
     let r = kept.are in
@@ -44,4 +44,4 @@ returns c =
           ap (λ count. groups_text setting (most_shown extent) cases groups ++ pairs_left_out setting.origin (most_pairs extent) count ++
           summary setting.origin entries count) counted;
     })
-    c.entries_told.ensures
+    c.tell_entries.ensures

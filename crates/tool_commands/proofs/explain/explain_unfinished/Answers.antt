@@ -6,8 +6,8 @@ use Rattle.tool_commands.proofs.explain.explain_unfinished.Goals as goal
 pub of-requires-clause-judged : goal.of-requires-clause-judged
 of-requires-clause-judged c = (shape_in c.args.program.now, c.requires.run.0.run.judged)
 
-pub limit_told-requires-clause-digest : goal.limit_told-requires-clause-digest
-limit_told-requires-clause-digest c = (c.args.entries.now, c.in_ok-digest.ensures.0)
+pub tell_limit-requires-clause-digest : goal.tell_limit-requires-clause-digest
+tell_limit-requires-clause-digest c = (c.args.entries.now, c.in_ok-digest.ensures.0)
 
 pub returns-then-refusal_status-eq0 : goal.returns-then-refusal_status-eq0
 returns-then-refusal_status-eq0 c = record {

@@ -30,8 +30,8 @@ explain_clean-requires-clause-judged c = (shape_in c.args.program.now, c.require
 pub digest_of_run-requires-clause-judged : goal.digest_of_run-requires-clause-judged
 digest_of_run-requires-clause-judged c = (shape_in c.args.program.now, c.requires.run.0.run.judged)
 
-pub races_told-requires-clause-digest : goal.races_told-requires-clause-digest
-races_told-requires-clause-digest c = (c.args.whole.now.entries.items, c.in_ok-digest.ensures.digest)
+pub tell_races-requires-clause-digest : goal.tell_races-requires-clause-digest
+tell_races-requires-clause-digest c = (c.args.whole.now.entries.items, c.in_ok-digest.ensures.digest)
 
 pub returns : goal.returns
 returns c = record {

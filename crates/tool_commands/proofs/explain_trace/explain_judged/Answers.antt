@@ -4,8 +4,8 @@ use Rattle.trace_text.specs.Traces.{contents as trace_contents}
 use Rattle.law_traces.proofs.CleanTraces.{clean_trace_law}
 use Rattle.tool_commands.proofs.explain_trace.explain_judged.Goals as goal
 
-pub verdict_told-requires-clause-digest : goal.verdict_told-requires-clause-digest
-verdict_told-requires-clause-digest c = (reverse c.requires.digested.gate.history, c.requires.digested.digest_is)
+pub tell_verdict-requires-clause-digest : goal.tell_verdict-requires-clause-digest
+tell_verdict-requires-clause-digest c = (reverse c.requires.digested.gate.history, c.requires.digested.digest_is)
 
 pub returns : goal.returns
 returns c =

@@ -4,7 +4,7 @@ use Rattle.serde_json.specs.Data.{Data}
 use Rattle.race_explanations.proofs.Telling.{first_of_all}
 use Rattle.race_records.specs.Values.{list_told}
 use Rattle.race_records.specs.Warned.{warning_told}
-use Rattle.race_records.proofs.warning.warned_by.Goals as goal
+use Rattle.race_records.proofs.warning.tell_warnings.Goals as goal
 
 pub returns : goal.returns
 returns c =

@@ -4,7 +4,7 @@ use Rattle.program_text.specs.Programs.{contents}
 use Rattle.model_histories.specs.declared.answer.Entry.{Entry}
 use Rattle.race_explanations.specs.Explained.{IsExplanation}
 use Rattle.tool_commands.specs.Explanations.{Manner, file_of, cut_text}
-use Rattle.tool_commands.proofs.explain.cut_text_told.Goals as goal
+use Rattle.tool_commands.proofs.explain.tell_cut_text.Goals as goal
 
 pub returns : goal.returns
 returns c = λ entries is.

@@ -1,7 +1,7 @@
 use Rattle.std.proofs.Common.{◌≡◌, ℕ, Some, true, length}
 use Rattle.std.specs.Prelude.{slice_get}
 use Rattle.program_warnings.specs.Reach.{IsReached, unmarked_count}
-use Rattle.program_warnings.proofs.reach.reached.Given as goal
+use Rattle.program_warnings.proofs.reach.mark_reached.Given as goal
 
 -- what has a mark is reached
 abbrev pub invariant-loop-next : goal.invariant-loop-next

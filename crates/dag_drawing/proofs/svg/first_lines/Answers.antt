@@ -1,7 +1,7 @@
 use Rattle.std.proofs.Common.{arith, ap, ◌∙◌, map}
 use Rattle.std.specs.Prelude.{string_bytes}
 use Rattle.dag_drawing.proofs.Pushed.{take_shown, whole_shown}
-use Rattle.dag_drawing.proofs.svg.shown_of.Goals as goal
+use Rattle.dag_drawing.proofs.svg.first_lines.Goals as goal
 
 pub returns-then-runs-from : goal.returns-then-runs-from
 returns-then-runs-from g c =

@@ -1,6 +1,6 @@
 use Rattle.program_text.specs.Programs.{contents}
 use Rattle.program_warnings.proofs.Telling.{first_more}
-use Rattle.program_warnings.proofs.message.first_told.Goals as goal
+use Rattle.program_warnings.proofs.message.tell_first.Goals as goal
 
 pub returns : goal.returns
 returns c =

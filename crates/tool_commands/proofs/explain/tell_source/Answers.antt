@@ -3,7 +3,7 @@ use Rattle.std.proofs.lemmas.Result.{IfErr-weaker}
 use Rattle.command_streams.specs.KeptTexts.{text_of}
 use Rattle.tool_commands.specs.Explanations.{ExplainsAs}
 use Rattle.tool_commands.proofs.TraceTexts.{kept_no_program, stops_traced}
-use Rattle.tool_commands.proofs.explain.told_of.Goals as goal
+use Rattle.tool_commands.proofs.explain.tell_source.Goals as goal
 
 pub returns-in-Plain-clause-ok : goal.returns-in-Plain-clause-ok
 returns-in-Plain-clause-ok g c =

@@ -4,7 +4,7 @@ use Rattle.std.specs.Prelude.{replicate}
 use Rattle.std.proofs.lemmas.Option.{slice_get_within}
 use Rattle.program_warnings.specs.Reach.{IsClosed, IsNext}
 use Rattle.program_warnings.proofs.Reaching.{marked_one, first_mark, next_mark, closed_at, all_reached}
-use Rattle.program_warnings.proofs.reach.reached.Goals as goal
+use Rattle.program_warnings.proofs.reach.mark_reached.Goals as goal
 
 pub loop-next-init : goal.loop-next-init
 loop-next-init c =

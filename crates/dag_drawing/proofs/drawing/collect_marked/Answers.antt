@@ -3,8 +3,8 @@ use Rattle.std.proofs.lemmas.Grind.{common_steps}
 use Rattle.dag_drawing.specs.Drawn.{marked_from}
 use Rattle.dag_drawing.proofs.Loops.{at_end}
 use Rattle.dag_drawing.proofs.Drawn.{marked_here, marked_later}
-use Rattle.dag_drawing.proofs.drawing.marked_numbers.Goals.{then-begun+in_ok-push, else-begun}
-use Rattle.dag_drawing.proofs.drawing.marked_numbers.Goals as goal
+use Rattle.dag_drawing.proofs.drawing.collect_marked.Goals.{then-begun+in_ok-push, else-begun}
+use Rattle.dag_drawing.proofs.drawing.collect_marked.Goals as goal
 
 pub loop-strand-preserved : goal.loop-strand-preserved
 loop-strand-preserved g c = elim c.if-begun.branch [

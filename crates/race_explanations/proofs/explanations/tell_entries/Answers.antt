@@ -9,7 +9,7 @@ use Rattle.race_explanations.specs.Groups.{groups_text}
 use Rattle.race_explanations.specs.Explained.{pairs_left_out, summary}
 use Rattle.race_explanations.proofs.Accounts.{these, three_adds}
 use Rattle.race_explanations.proofs.FindingTexts.{whole_text}
-use Rattle.race_explanations.proofs.explanations.entries_told.Goals as goal
+use Rattle.race_explanations.proofs.explanations.tell_entries.Goals as goal
 
 pub returns : goal.returns
 returns c =

@@ -1,6 +1,6 @@
 use Rattle.std.proofs.Common.{◌≡◌, ◌++◌, drop}
 use Rattle.dag_drawing.specs.Drawn.{marked_from}
-use Rattle.dag_drawing.proofs.drawing.marked_numbers.Given as goal
+use Rattle.dag_drawing.proofs.drawing.collect_marked.Given as goal
 
 -- the marked numbers so far and those that are left are all of them
 abbrev pub invariant-loop-strand : goal.invariant-loop-strand
