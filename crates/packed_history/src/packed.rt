@@ -55,7 +55,7 @@ fn split(child: u32, join: u32, first: bool) -> Answer
 
 /// What was asked and answered, by one choice for both.
 #[inline(always)]
-fn told_of(tag: u64, first: u32, second: u32) -> (Act, Answer)
+fn unpack_parts(tag: u64, first: u32, second: u32) -> (Act, Answer)
     ensures act { result.0 ≡ act_spec (deed_spec tag first second) }
     ensures answer { result.1 ≡ answer_spec (deed_spec tag first second) }
 {
@@ -211,7 +211,7 @@ impl Packed {
     pub fn unpack(self) -> Receipt
         ensures { result ≡ plain_spec (unpacked self) }
     {
-        let (act, answer) = told_of(self.head / HEADS, self.first, self.second);
+        let (act, answer) = unpack_parts(self.head / HEADS, self.first, self.second);
         Receipt {
             number: self.number(),
             request: Request {
