@@ -2,3 +2,4 @@ pub mod Commands
 pub mod Asked
 pub mod Jobs
 pub mod Names
+pub mod Usages

@@ -1,13 +1,189 @@
 //! The commands for the parser of the command line: their texts, and the words that each takes.
 
-ghost use Rattle.std.specs.Prelude.{◌≡◌, IfOk, codes};
-ghost use Rattle.clap.specs.Words.{App, Shape, new_app, with_subcommand};
+ghost use Rattle.std.specs.Prelude.{◌≡◌, IfOk, map};
+ghost use Rattle.clap.specs.Words.{App, new_app, with_subcommand};
 ghost use Rattle.command_words.specs.Commands.{free, wanted, several, option, flag, leaf, program, cilkcheck, IsArgument, IsCommand};
 ghost use Rattle.command_words.specs.Commands.{judge, elide, run, explain, replay, draw};
+ghost use Rattle.command_words.specs.Usages.{rule_of, shape_of, with_subcommands};
 
 use crate::help;
 use clap::{Arg, ArgAction, Command};
 use std::alloc::{AllocError, Global};
+
+/// A word that a command takes: its name, what the help calls its value, and what the help tells of it.
+#[derive(Clone, Copy)]
+enum Word<'a> {
+    /// A word among the words, or none.
+    Free(&'a str, &'a str, &'a str),
+    /// A word that must stand among the words.
+    Wanted(&'a str, &'a str, &'a str),
+    /// One word or more, of which one must stand among the words.
+    Several(&'a str, &'a str, &'a str),
+    /// `--NAME VALUE`, or nothing.
+    Option(&'a str, &'a str, &'a str),
+    /// `--NAME`, or nothing.
+    Flag(&'a str, &'a str),
+}
+
+/// How a command is used.
+#[derive(Clone, Copy)]
+struct Usage<'a> {
+    name: &'a str,
+    about: &'a str,
+    /// What stands before its help, where that is more than what it is about.
+    before: Option<&'a str>,
+    /// What stands behind its help.
+    behind: &'a str,
+    /// The words that it takes.
+    words: &'a [Word<'a>],
+}
+
+/// The limit on the entries of a history.
+const LIMIT: Word<'static> = Word::Option(
+    "limit",
+    "N",
+    "The most entries of the history, from 0 to 1000000 [default: 1000000]",
+);
+
+/// The number of workers.
+const WORKERS: Word<'static> = Word::Option(
+    "workers",
+    "N",
+    "The workers, from 1 to 64 [default: 2]",
+);
+
+/// The file of a program.
+const PROGRAM: Word<'static> = Word::Wanted("file", "FILE", "The program; '-' is standard input");
+
+/// The file of a trace, behind that of its program or alone.
+const TRACE: Word<'static> = Word::Wanted("trace", "TRACE", "The trace; '-' is standard input");
+
+fn judge() -> Usage<'static>
+    ensures { shape_of result ≡ judge }
+{
+    Usage {
+        name: "judge",
+        about: help::JUDGE,
+        before: None,
+        behind: help::TRACE,
+        words: &[
+            Word::Free(
+                "file",
+                "FILE",
+                "The trace; '-' is standard input [default: -]",
+            ),
+            LIMIT,
+        ],
+    }
+}
+
+fn elide() -> Usage<'static>
+    ensures { shape_of result ≡ elide }
+{
+    Usage {
+        name: "elide",
+        about: help::ELIDE,
+        before: Some(help::ELISION),
+        behind: help::LANGUAGE,
+        words: &[
+            PROGRAM,
+            Word::Option(
+                "limit",
+                "N",
+                "The most requests, from 0 to 1000000 [default: 1000000]",
+            ),
+        ],
+    }
+}
+
+fn run() -> Usage<'static>
+    ensures { shape_of result ≡ run }
+{
+    Usage {
+        name: "run",
+        about: help::RUN,
+        before: Some(help::REPORT),
+        behind: help::LANGUAGE,
+        words: &[
+            PROGRAM,
+            WORKERS,
+            LIMIT,
+            Word::Option(
+                "trace",
+                "OUT",
+                "A file, made or emptied, that the trace of the run is written into; '-' is standard output, which then has no report",
+            ),
+        ],
+    }
+}
+
+fn explain() -> Usage<'static>
+    ensures { shape_of result ≡ explain }
+{
+    Usage {
+        name: "explain",
+        about: help::EXPLAIN,
+        before: Some(help::EXPLANATION),
+        behind: help::LANGUAGE,
+        words: &[
+            Word::Several(
+                "file",
+                "FILE",
+                "A program, or one or more traces; '-' is standard input",
+            ),
+            WORKERS,
+            Word::Flag(
+                "serial",
+                "Run each child before what follows its spawn, by one worker: the same run each time",
+            ),
+            LIMIT,
+            Word::Option(
+                "color",
+                "WHEN",
+                "When words are painted: auto, always or never [default: auto]",
+            ),
+            Word::Option(
+                "format",
+                "FORM",
+                "The form of the explanation: text, json or sarif [default: text]",
+            ),
+            Word::Flag(
+                "all",
+                "Tell of every pair of lines that raced: at most 20 else, and 3 of those that part at one spawn",
+            ),
+        ],
+    }
+}
+
+fn replay() -> Usage<'static>
+    ensures { shape_of result ≡ replay }
+{
+    Usage {
+        name: "replay",
+        about: help::REPLAY,
+        before: None,
+        behind: help::OUTCOME,
+        words: &[PROGRAM, TRACE],
+    }
+}
+
+fn draw() -> Usage<'static>
+    ensures { shape_of result ≡ draw }
+{
+    Usage {
+        name: "draw",
+        about: help::DRAW,
+        before: Some(help::DRAWING),
+        behind: help::STRANDS,
+        words: &[
+            TRACE,
+            Word::Flag(
+                "svg",
+                "Writes a picture, as SVG, in place of a text for Graphviz",
+            ),
+        ],
+    }
+}
 
 /// A word among the words, or none.
 fn optional_word<'a>(alloc: Global, name: &'a str, value: &'a str, help: &'a str) -> Arg<'a>
@@ -49,183 +225,88 @@ fn flag<'a>(alloc: Global, name: &'a str, help: &'a str) -> Arg<'a>
         .help(help)
 }
 
-/// A command with the text of what it is about, that behind its help, and no words yet.
-fn command<'a>(alloc: Global, name: &'a str, about: &'a str, behind: &'a str) -> Command<'a>
-    ensures { IsCommand (new_app name.entry.now) result }
+/// The parser's argument for a word.
+fn argument<'a>(alloc: Global, word: Word<'a>) -> Arg<'a>
+    ensures { IsArgument (rule_of word.entry) result }
 {
-    Command::new(alloc, name).about(about).after_help(behind)
+    match word {
+        Word::Free(name, value, help) => optional_word(alloc, name, value, help),
+        Word::Wanted(name, value, help) => required_word(alloc, name, value, help),
+        Word::Several(name, value, help) => required_words(alloc, name, value, help),
+        Word::Option(name, value, help) => option(alloc, name, value, help),
+        Word::Flag(name, help) => flag(alloc, name, help),
+    }
 }
 
-/// The limit on the entries of a history.
-fn limit_option<'a>(alloc: Global) -> Arg<'a>
-    ensures { IsArgument (option (codes "limit")) result }
+/// A command with its texts, and no words yet.
+fn begin<'a>(alloc: Global, usage: &Usage<'a>) -> Command<'a>
+    ensures { IsCommand (new_app usage.now.name.now) result }
 {
-    option(
-        alloc,
-        "limit",
-        "N",
-        "The most entries of the history, from 0 to 1000000 [default: 1000000]",
-    )
+    let command = Command::new(alloc, usage.name)
+        .about(usage.about)
+        .after_help(usage.behind);
+    match usage.before {
+        Some(text) => command.long_about(text),
+        None => command,
+    }
 }
 
-/// The number of workers.
-fn workers_option<'a>(alloc: Global) -> Arg<'a>
-    ensures { IsArgument (option (codes "workers")) result }
+/// A command with its texts and its words.
+fn command<'a>(alloc: Global, usage: &Usage<'a>) -> Result<Command<'a>, AllocError>
+    ensures { IfOk result (IsCommand (leaf (shape_of usage.now))) }
 {
-    option(
-        alloc,
-        "workers",
-        "N",
-        "The workers, from 1 to 64 [default: 2]",
-    )
-}
-
-fn judge<'a>(alloc: Global) -> Result<Command<'a>, AllocError>
-    ensures { IfOk result (IsCommand (leaf judge)) }
-{
-    let words = vec![in alloc;
-        optional_word(
-            alloc,
-            "file",
-            "FILE",
-            "The trace; '-' is standard input [default: -]",
-        ),
-        limit_option(alloc),
-    ]?;
-    command(alloc, "judge", help::JUDGE, help::TRACE).args(words)
-}
-
-fn elide<'a>(alloc: Global) -> Result<Command<'a>, AllocError>
-    ensures { IfOk result (IsCommand (leaf elide)) }
-{
-    let words = vec![in alloc;
-        required_word(alloc, "file", "FILE", "The program; '-' is standard input"),
-        option(
-            alloc,
-            "limit",
-            "N",
-            "The most requests, from 0 to 1000000 [default: 1000000]",
-        ),
-    ]?;
-    command(alloc, "elide", help::ELIDE, help::LANGUAGE)
-        .long_about(help::ELISION)
-        .args(words)
-}
-
-fn run<'a>(alloc: Global) -> Result<Command<'a>, AllocError>
-    ensures { IfOk result (IsCommand (leaf run)) }
-{
-    let words = vec![in alloc;
-        required_word(alloc, "file", "FILE", "The program; '-' is standard input"),
-        workers_option(alloc),
-        limit_option(alloc),
-        option(
-            alloc,
-            "trace",
-            "OUT",
-            "A file, made or emptied, that the trace of the run is written into; '-' is standard output, which then has no report",
-        ),
-    ]?;
-    command(alloc, "run", help::RUN, help::LANGUAGE)
-        .long_about(help::REPORT)
-        .args(words)
-}
-
-fn explain<'a>(alloc: Global) -> Result<Command<'a>, AllocError>
-    ensures { IfOk result (IsCommand (leaf explain)) }
-{
-    let words = vec![in alloc;
-        required_words(
-            alloc,
-            "file",
-            "FILE",
-            "A program, or one or more traces; '-' is standard input",
-        ),
-        workers_option(alloc),
-        flag(
-            alloc,
-            "serial",
-            "Run each child before what follows its spawn, by one worker: the same run each time",
-        ),
-        limit_option(alloc),
-        option(
-            alloc,
-            "color",
-            "WHEN",
-            "When words are painted: auto, always or never [default: auto]",
-        ),
-        option(
-            alloc,
-            "format",
-            "FORM",
-            "The form of the explanation: text, json or sarif [default: text]",
-        ),
-        flag(
-            alloc,
-            "all",
-            "Tell of every pair of lines that raced: at most 20 else, and 3 of those that part at one spawn",
-        ),
-    ]?;
-    command(alloc, "explain", help::EXPLAIN, help::LANGUAGE)
-        .long_about(help::EXPLANATION)
-        .args(words)
-}
-
-fn replay<'a>(alloc: Global) -> Result<Command<'a>, AllocError>
-    ensures { IfOk result (IsCommand (leaf replay)) }
-{
-    let words = vec![in alloc;
-        required_word(alloc, "file", "FILE", "The program; '-' is standard input"),
-        required_word(alloc, "trace", "TRACE", "The trace; '-' is standard input"),
-    ]?;
-    command(alloc, "replay", help::REPLAY, help::OUTCOME).args(words)
-}
-
-fn draw<'a>(alloc: Global) -> Result<Command<'a>, AllocError>
-    ensures { IfOk result (IsCommand (leaf draw)) }
-{
-    let words = vec![in alloc;
-        required_word(alloc, "trace", "TRACE", "The trace; '-' is standard input"),
-        flag(
-            alloc,
-            "svg",
-            "Writes a picture, as SVG, in place of a text for Graphviz",
-        ),
-    ]?;
-    command(alloc, "draw", help::DRAW, help::STRANDS)
-        .long_about(help::DRAWING)
-        .args(words)
+    let mut command = begin(alloc, usage);
+    for word in usage.words {
+        command = command.arg(argument(alloc, *word))?;
+    }
+    Ok(command)
 }
 
 /// The program without its commands. Its words stand behind its name.
 fn program<'a>(alloc: Global) -> Result<Command<'a>, AllocError>
     ensures { IfOk result (IsCommand program) }
 {
-    command(alloc, "cilkcheck", help::ABOUT, help::PROGRAM)
+    Command::new(alloc, "cilkcheck")
+        .about(help::ABOUT)
+        .after_help(help::PROGRAM)
         .version(help::VERSION)
         .no_binary_name(true)
         .bin_name("cilkcheck")
 }
 
-/// A command with one more command of its own, where there is memory for both.
-fn with<'a>(
-    whole: Result<Command<'a>, AllocError>,
-    part: Result<Command<'a>, AllocError>,
-) -> Result<Command<'a>, AllocError>
-    ensures { (app : App) (shape : Shape) → IfOk whole.entry (IsCommand app) → IfOk part.entry (IsCommand (leaf shape)) →
-        IfOk result (IsCommand (with_subcommand app shape)) }
+/// The program with one more command.
+fn with<'a>(alloc: Global, whole: Command<'a>, usage: &Usage<'a>) -> Result<Command<'a>, AllocError>
+    ensures { (app : App) → IsCommand app whole.entry → IfOk result (IsCommand (with_subcommand app (shape_of usage.now))) }
 {
-    whole?.subcommand(part?)
+    // (a `?` in the place of the `match` takes the proof many times as long)
+    match command(alloc, usage) {
+        Ok(part) => whole.subcommand(part),
+        Err(error) => {
+            drop(whole);
+            Err(error)
+        }
+    }
+}
+
+/// The program with more commands.
+fn with_all<'a>(
+    alloc: Global,
+    program: Command<'a>,
+    usages: &[Usage<'a>],
+) -> Result<Command<'a>, AllocError>
+    ensures { (app : App) → IsCommand app program.entry → IfOk result (IsCommand (with_subcommands app (map shape_of usages.now))) }
+{
+    let mut whole = program;
+    for usage in usages {
+        whole = with(alloc, whole, usage)?;
+    }
+    Ok(whole)
 }
 
 /// The program with its commands.
 pub(crate) fn commands<'a>(alloc: Global) -> Result<Command<'a>, AllocError>
     ensures { IfOk result (IsCommand cilkcheck) }
 {
-    let program = with(program(alloc), judge(alloc));
-    let program = with(program, elide(alloc));
-    let program = with(program, run(alloc));
-    let program = with(program, explain(alloc));
-    let program = with(program, replay(alloc));
-    with(program, draw(alloc))
+    let usages = [judge(), elide(), run(), explain(), replay(), draw()];
+    with_all(alloc, program(alloc)?, &usages)
 }

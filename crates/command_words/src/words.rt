@@ -359,8 +359,8 @@ fn judge_job(alloc: Global, matches: &ArgMatches<'_>) -> Result<Job, CliFault>
     ensures job { IfOk result (IsAsked (codes "judge") (rows_in matches.now)) }
     ensures fault { IfErr result IsUsageFault }
 {
-    let file = given_file(alloc, matches, "file")?;
     let limit = limit_of(alloc, matches)?;
+    let file = given_file(alloc, matches, "file")?;
     Ok(Job::Judge { file, limit })
 }
 
@@ -368,8 +368,8 @@ fn elide_job(alloc: Global, matches: &ArgMatches<'_>) -> Result<Job, CliFault>
     ensures job { IfOk result (IsAsked (codes "elide") (rows_in matches.now)) }
     ensures fault { IfErr result IsUsageFault }
 {
-    let file = file_of(alloc, matches, "file")?;
     let limit = limit_of(alloc, matches)?;
+    let file = file_of(alloc, matches, "file")?;
     Ok(Job::Elide { file, limit })
 }
 
@@ -394,9 +394,9 @@ fn run_job(alloc: Global, matches: &ArgMatches<'_>) -> Result<Job, CliFault>
     ensures job { IfOk result (IsAsked (codes "run") (rows_in matches.now)) }
     ensures fault { IfErr result IsUsageFault }
 {
-    let file = file_of(alloc, matches, "file")?;
     let workers = workers_of(alloc, matches)?;
     let limit = limit_of(alloc, matches)?;
+    let file = file_of(alloc, matches, "file")?;
     match text_of(matches, "trace") {
         None => Ok(Job::Run {
             file,
@@ -551,9 +551,9 @@ fn explain_several(alloc: Global, matches: &ArgMatches<'_>, names: &[&str]) -> R
             "'--workers <N>', '--serial' and '--limit <N>' are for one file: several are traces, which are not run",
         ));
     }
-    let files = several_files(alloc, names)?;
     let color = color_of(alloc, matches)?;
     let format = format_of(alloc, matches)?;
+    let files = several_files(alloc, names)?;
     let is_all = has_flag(matches, "all");
     Ok(Job::ExplainTraces {
         files,
@@ -574,15 +574,22 @@ fn explain_job(alloc: Global, matches: &ArgMatches<'_>) -> Result<Job, CliFault>
     }
 }
 
+/// Whether the word with this name is that for standard input.
+fn is_input(matches: &ArgMatches<'_>, name: &str) -> bool
+    ensures { result ≡ false → first_of name.now (rows_in matches.now) ≢ Some input_word }
+{
+    text_of(matches, name) == Some(INPUT)
+}
+
 fn replay_job(alloc: Global, matches: &ArgMatches<'_>) -> Result<Job, CliFault>
     ensures job { IfOk result (IsAsked (codes "replay") (rows_in matches.now)) }
     ensures fault { IfErr result IsUsageFault }
 {
-    let file = file_of(alloc, matches, "file")?;
-    let trace = file_of(alloc, matches, "trace")?;
-    if file.as_str() == INPUT && trace.as_str() == INPUT {
+    if is_input(matches, "file") && is_input(matches, "trace") {
         return Err(usage(alloc, INPUT_TWICE));
     }
+    let file = file_of(alloc, matches, "file")?;
+    let trace = file_of(alloc, matches, "trace")?;
     Ok(Job::Replay { file, trace })
 }
 
@@ -657,7 +664,11 @@ fn read_given<S: AsStr>(alloc: Global, words: &[S]) -> Result<Job, CliFault>
     ensures ranges { IfOk result IsInRange }
     ensures fault { IfErr result IsUsageFault }
 {
-    read_by(alloc, commands(alloc)?, words)
+    // (as in `with` of the commands, no `?`)
+    match commands(alloc) {
+        Ok(command) => read_by(alloc, command, words),
+        Err(_) => Err(CliFault::Memory),
+    }
 }
 
 /// Reads the words behind the program's name. A fault is [`CliFault::Usage`] or [`CliFault::Memory`].

@@ -1,11 +1,15 @@
-use Rattle.command_words.specs.Commands.{judge, elide, run, explain, replay, draw, program}
+use Rattle.std.proofs.Common.{◌≡◌, List, [], ◌∷◌, ap₂, refl, subst}
+use Rattle.std.specs.Prelude.{IfOk}
+use Rattle.clap.specs.Words.{Shape}
+use Rattle.command_words.specs.Commands.{IsCommand, cilkcheck, program}
+use Rattle.command_words.specs.Usages.{with_subcommands}
 use Rattle.command_words.proofs.commands.commands.Goals as goal
+
+both : {first second : Shape} {some others : List Shape} → first ≡ second → some ≡ others → first ∷ some ≡ second ∷ others
+both is are = ap₂ (λ (shape : Shape) (shapes : List Shape). shape ∷ shapes) is are
 
 pub returns : goal.returns
 returns c =
-    let one = c.with-program.ensures program judge c.program.ensures c.judge.ensures in
-    let two = c.with-program-2.ensures _ elide one c.elide.ensures in
-    let three = c.with-program-3.ensures _ run two c.run.ensures in
-    let four = c.with-program-4.ensures _ explain three c.explain.ensures in
-    let five = c.with-program-5.ensures _ replay four c.replay.ensures in
-    c.with.ensures _ draw five c.draw.ensures
+    subst (λ shapes. IfOk c.with_all.result (IsCommand (with_subcommands program shapes)))
+    (both c.judge.ensures (both c.elide.ensures (both c.run.ensures (both c.explain.ensures (both c.replay.ensures (both {some = []} {others = []} c.draw.ensures refl))))))
+    (c.with_all.ensures program c.in_ok-program.ensures)
