@@ -9,64 +9,79 @@ pub on_ok : {T E : Type 0} (r : Result T E) (P Q : Type 0) → (P → Q) → OnO
 on_ok (Ok value) P Q f p = f p
 on_ok (Err fault) P Q f p = p
 
--- ---- numbers, each behind its words
+pub on_all_ok : {T E : Type 0} (r : Result T E) (P Q S U : Type 0) → (P → Q → S → U) → OnOk r P → OnOk r Q → OnOk r S → OnOk r U
+on_all_ok (Ok value) P Q S U f p q s = f p q s
+on_all_ok (Err fault) P Q S U f p q s = p
 
-pub numbers_pushed : (old a x b y one two : List ℕ) → one ≡ old ++ a ++ x → two ≡ one ++ b ++ y → two ≡ old ++ a ++ x ++ b ++ y
-numbers_pushed old a x b y one two first second = cc
+-- ---- filled words, and what is added behind them
 
-pub head_pushed : (old a w b h c d e f one two three four : List ℕ) → one ≡ old ++ a ++ w ++ b ++ h → two ≡ one ++ c ++ w ++ d ++ h →
-    three ≡ two ++ e → four ≡ three ++ f → four ≡ old ++ (a ++ w ++ b ++ h ++ c ++ w ++ d ++ h ++ e ++ f)
-head_pushed old a w b h c d e f one two three four first second third fourth =
-    let flat : four ≡ old ++ a ++ w ++ b ++ h ++ c ++ w ++ d ++ h ++ e ++ f = cc in
-    flat ∙ simp append_assoc
+-- the parts of filled words
+infixr 65 ◌⊕◌
+abbrev ◌⊕◌ : List ℕ → List ℕ → List ℕ
+one ⊕ two = one ++ two
 
-pub rect_pushed : (old a v b w c x d y e z f one two three four : List ℕ) → one ≡ old ++ a ++ v → two ≡ one ++ b ++ w ++ c ++ x →
-    three ≡ two ++ d ++ y ++ e ++ z → four ≡ three ++ f → four ≡ old ++ (a ++ v ++ b ++ w ++ c ++ x ++ d ++ y ++ e ++ z ++ f)
-rect_pushed old a v b w c x d y e z f one two three four first second third fourth =
-    let flat : four ≡ old ++ a ++ v ++ b ++ w ++ c ++ x ++ d ++ y ++ e ++ z ++ f = cc in
-    flat ∙ simp append_assoc
+-- old: the text before; one, two, three: the text behind each addition; x, y, ..: the numbers
 
--- four pairs of numbers
-pub curve_pushed : (old m s c x y h z v w end one two three four five : List ℕ) → one ≡ old ++ m ++ x ++ s ++ y → two ≡ one ++ c ++ x ++ s ++ h →
-    three ≡ two ++ s ++ z ++ s ++ w → four ≡ three ++ s ++ z ++ s ++ v → five ≡ four ++ end →
-    five ≡ old ++ (m ++ x ++ s ++ y ++ c ++ x ++ s ++ h ++ s ++ z ++ s ++ w ++ s ++ z ++ s ++ v ++ end)
-curve_pushed old m s c x y h z v w end one two three four five first second third fourth fifth =
-    let flat : five ≡ old ++ m ++ x ++ s ++ y ++ c ++ x ++ s ++ h ++ s ++ z ++ s ++ w ++ s ++ z ++ s ++ v ++ end = cc in
-    flat ∙ simp append_assoc
+-- words and a number, and then a text between words
+pub line_pushed : (old a x b t c one two three : List ℕ) → one ≡ old ++ (a ⊕ x ⊕ b) → two ≡ one ++ t → three ≡ two ++ c →
+    three ≡ old ++ (a ++ x ++ b ++ t ++ c)
+line_pushed old a x b t c one two three first second third =
+    let joined : three ≡ old ++ (a ⊕ x ⊕ b) ++ t ++ c = cc in
+    joined ∙ simp append_assoc
 
--- two words, and then three pairs of numbers
-pub line_pushed : (old a k b u c v d w e x f y g z h one two three four five six : List ℕ) → one ≡ old ++ a → two ≡ one ++ k →
-    three ≡ two ++ b ++ u ++ c ++ v → four ≡ three ++ d ++ w ++ e ++ x → five ≡ four ++ f ++ y ++ g ++ z → six ≡ five ++ h →
-    six ≡ old ++ (a ++ k ++ b ++ u ++ c ++ v ++ d ++ w ++ e ++ x ++ f ++ y ++ g ++ z ++ h)
-line_pushed old a k b u c v d w e x f y g z h one two three four five six first second third fourth fifth sixth =
-    let flat : six ≡ old ++ a ++ k ++ b ++ u ++ c ++ v ++ d ++ w ++ e ++ x ++ f ++ y ++ g ++ z ++ h = cc in
-    flat ∙ simp append_assoc
+-- words and two numbers, and then a text between words
+pub ends_pushed : (old a x b y c t d one two three : List ℕ) → one ≡ old ++ (a ⊕ x ⊕ b ⊕ y ⊕ c) → two ≡ one ++ t → three ≡ two ++ d →
+    three ≡ old ++ (a ++ x ++ b ++ y ++ c ++ t ++ d)
+ends_pushed old a x b y c t d one two three first second third =
+    let joined : three ≡ old ++ (a ⊕ x ⊕ b ⊕ y ⊕ c) ++ t ++ d = cc in
+    joined ∙ simp append_assoc
 
--- a pair of numbers, and then a text between words
-pub label_pushed : (old a x b y c t d one two three four : List ℕ) → one ≡ old ++ a ++ x ++ b ++ y → two ≡ one ++ c →
-    three ≡ two ++ t → four ≡ three ++ d → four ≡ old ++ (a ++ x ++ b ++ y ++ c ++ t ++ d)
-label_pushed old a x b y c t d one two three four first second third fourth =
-    let flat : four ≡ old ++ a ++ x ++ b ++ y ++ c ++ t ++ d = cc in
-    flat ∙ simp append_assoc
+-- words twice, and then words and six numbers
+pub edge_pushed : (old a k b u c v d w e x f y g z h one two three : List ℕ) → one ≡ old ++ a → two ≡ one ++ k →
+    three ≡ two ++ (b ⊕ u ⊕ c ⊕ v ⊕ d ⊕ w ⊕ e ⊕ x ⊕ f ⊕ y ⊕ g ⊕ z ⊕ h) →
+    three ≡ old ++ (a ++ k ++ b ++ u ++ c ++ v ++ d ++ w ++ e ++ x ++ f ++ y ++ g ++ z ++ h)
+edge_pushed old a k b u c v d w e x f y g z h one two three first second third =
+    let joined : three ≡ old ++ a ++ k ++ (b ⊕ u ⊕ c ⊕ v ⊕ d ⊕ w ⊕ e ⊕ x ⊕ f ⊕ y ⊕ g ⊕ z ⊕ h) = cc in
+    joined ∙ simp append_assoc
 
--- a pair of numbers, words, and then an arc
-pub arc_pushed : (old a x b y c t one two three : List ℕ) → one ≡ old ++ a ++ x ++ b ++ y → two ≡ one ++ c → three ≡ two ++ t →
-    three ≡ old ++ (a ++ x ++ b ++ y ++ c) ++ t
-arc_pushed old a x b y c t one two three first second third =
-    let flat : three ≡ old ++ a ++ x ++ b ++ y ++ c ++ t = cc in
-    flat ∙ simp append_assoc
+pub head_pushed : (old a w b h c d e f one two : List ℕ) → one ≡ old ++ (a ⊕ w ⊕ b ⊕ h ⊕ c ⊕ w ⊕ d ⊕ h ⊕ e) → two ≡ one ++ f →
+    two ≡ old ++ (a ++ w ++ b ++ h ++ c ++ w ++ d ++ h ++ e ++ f)
+head_pushed old a w b h c d e f one two first second =
+    let joined : two ≡ old ++ (a ⊕ w ⊕ b ⊕ h ⊕ c ⊕ w ⊕ d ⊕ h ⊕ e) ++ f = cc in
+    joined ∙ simp append_assoc
 
 -- the box of a strand and its lines
-pub node_pushed : (old r a y b l c one two three four five : List ℕ) → one ≡ old ++ r → two ≡ one ++ a ++ y → three ≡ two ++ b →
-    four ≡ three ++ l → five ≡ four ++ c → five ≡ old ++ (r ++ a ++ y ++ b ++ l ++ c)
-node_pushed old r a y b l c one two three four five first second third fourth fifth =
-    let flat : five ≡ old ++ r ++ a ++ y ++ b ++ l ++ c = cc in
-    flat ∙ simp append_assoc
+pub node_pushed : (old a v b w c x d y e z f g h l i one two three : List ℕ) →
+    one ≡ old ++ (a ⊕ v ⊕ b ⊕ w ⊕ c ⊕ x ⊕ d ⊕ y ⊕ e ⊕ z ⊕ f ⊕ g ⊕ x ⊕ h) → two ≡ one ++ l → three ≡ two ++ i →
+    three ≡ old ++ ((a ++ v ++ b ++ w ++ c ++ x ++ d ++ y ++ e ++ z ++ f) ++ g ++ x ++ h ++ l ++ i)
+node_pushed old a v b w c x d y e z f g h l i one two three first second third =
+    let joined : three ≡ old ++ (a ⊕ v ⊕ b ⊕ w ⊕ c ⊕ x ⊕ d ⊕ y ⊕ e ⊕ z ⊕ f ⊕ g ⊕ x ⊕ h) ++ l ++ i = cc in
+    joined ∙ simp append_assoc
 
 -- a race's ends and its arc, and then what is written beside it
-pub race_pushed : (old e a l one two : List ℕ) → one ≡ old ++ e ++ a → two ≡ one ++ l → two ≡ old ++ (e ++ a ++ l)
-race_pushed old e a l one two first second =
-    let flat : two ≡ old ++ e ++ a ++ l = cc in
+pub race_pushed : (old a p b q c m s x y d h z v w e f j g k i t l one two three : List ℕ) →
+    one ≡ old ++ (a ⊕ p ⊕ b ⊕ q ⊕ c ⊕ m ⊕ x ⊕ s ⊕ y ⊕ d ⊕ x ⊕ s ⊕ h ⊕ s ⊕ z ⊕ s ⊕ w ⊕ s ⊕ z ⊕ s ⊕ v ⊕ e ⊕ f ⊕ j ⊕ g ⊕ k ⊕ i) →
+    two ≡ one ++ t → three ≡ two ++ l →
+    three ≡ old ++ ((a ++ p ++ b ++ q ++ c) ++
+    (m ++ x ++ s ++ y ++ d ++ x ++ s ++ h ++ s ++ z ++ s ++ w ++ s ++ z ++ s ++ v ++ e) ++ (f ++ j ++ g ++ k ++ i ++ t ++ l))
+race_pushed old a p b q c m s x y d h z v w e f j g k i t l one two three first second third =
+    let joined : three ≡ old ++ (a ⊕ p ⊕ b ⊕ q ⊕ c ⊕ m ⊕ x ⊕ s ⊕ y ⊕ d ⊕ x ⊕ s ⊕ h ⊕ s ⊕ z ⊕ s ⊕ w ⊕ s ⊕ z ⊕ s ⊕ v ⊕ e ⊕ f ⊕ j ⊕ g ⊕ k ⊕ i) ++ t ++ l = cc in
+    joined ∙ simp append_assoc
+
+-- ---- the lines of a box
+
+pub lines_pushed : (line : List ℕ) (old told rest one two three : List (List ℕ)) → one ≡ old ++ line ∷ [] → two ≡ one ++ told →
+    three ≡ two ++ rest → three ≡ old ++ (line ∷ told ++ rest)
+lines_pushed line old told rest one two three first second third =
+    let joined : three ≡ old ++ line ∷ [] ++ told ++ rest = cc in
+    joined ∙ simp append_assoc
+
+-- ---- a whole drawing
+
+pub drawing_pushed : (old a b c d e f one two three four five six : List ℕ) → one ≡ old ++ a → two ≡ one ++ b → three ≡ two ++ c →
+    four ≡ three ++ d → five ≡ four ++ e → six ≡ five ++ f → six ≡ old ++ (a ++ b ++ c ++ d ++ e ++ f)
+drawing_pushed old a b c d e f one two three four five six first second third fourth fifth sixth =
+    let flat : six ≡ old ++ a ++ b ++ c ++ d ++ e ++ f = cc in
     flat ∙ simp append_assoc
 
 -- ---- what was recorded

@@ -3,6 +3,7 @@ pub mod Walks
 pub mod Told
 pub mod Drawn
 pub mod Texts
+pub mod Blanks
 pub mod Labels
 pub mod Dots
 pub mod Plans

@@ -2,27 +2,25 @@
 
 ghost use Rattle.std.specs.Prelude.{◌≡◌, ◌++◌, OnOk, IfOk, IsTrue, codes, decimal, flat_map, map, string_bytes};
 ghost use Rattle.trace_text.specs.Shapes.{is_numbered};
-ghost use Rattle.dag_drawing.specs.Texts.{escaped, kind_word, edge_text, red_text};
+ghost use Rattle.dag_drawing.specs.Texts.{escape, escaped, kind_word, edge_text, red_text};
 ghost use Rattle.dag_drawing.specs.Labels.{naming_of, title_lines};
 ghost use Rattle.dag_drawing.specs.Dots.{line_text, box_text, boxes_text, arc_text, heading_text, dot_text};
 
+use crate::blanks::push_filled;
 use crate::drawing::{Access, Drawing, Edge, EdgeKind, Race};
 use crate::labels::{Names, node_lines, own_of, race_label};
 use std::alloc::{AllocError, Allocator};
-use text_buffers::{push_number, push_words};
+use text_buffers::push_words;
 
-/// Adds two numbers, each behind its words.
-pub fn push_numbers<A: Allocator>(
-    text: &mut Vec<u8, A>,
-    before: &str,
-    one: u64,
-    between: &str,
-    other: u64,
-) -> Result<(), AllocError>
-    ensures { OnOk result (text.new.items ≡ text.old.items ++ before.now ++ decimal one ++ between.now ++ decimal other) }
+/// Adds a byte as it stands between quotation marks.
+fn push_escape<A: Allocator>(text: &mut Vec<u8, A>, byte: u8) -> Result<(), AllocError>
+    ensures { OnOk result (text.new.items ≡ text.old.items ++ escape byte) }
 {
-    push_number(text, before, one)?;
-    push_number(text, between, other)
+    if byte == b'"' || byte == b'\\' {
+        text.extend_from_slice(&[b'\\', byte])
+    } else {
+        text.extend_from_slice(&[byte])
+    }
 }
 
 /// Adds text as it stands between quotation marks.
@@ -30,10 +28,7 @@ fn push_escaped<A: Allocator>(text: &mut Vec<u8, A>, name: &str) -> Result<(), A
     ensures { OnOk result (text.new.items ≡ text.old.items ++ escaped name.now) }
 {
     for byte in name.as_bytes() {
-        if *byte == b'"' || *byte == b'\\' {
-            text.push(b'\\')?;
-        }
-        text.push(*byte)?;
+        push_escape(text, *byte)?;
     }
     Ok(())
 }
@@ -64,8 +59,7 @@ fn push_box<A: Allocator>(
 ) -> Result<(), AllocError>
     ensures { OnOk result (text.new.items ≡ text.old.items ++ box_text strand (map string_bytes lines.now)) }
 {
-    push_number(text, "  ", strand as u64)?;
-    push_words(text, " [label=\"")?;
+    push_filled(text, "  # [label=\"", &[strand as u64])?;
     push_lines(text, lines)?;
     push_words(text, "\"];\n")
 }
@@ -102,20 +96,12 @@ pub fn word_of(kind: EdgeKind) -> &'static str
     }
 }
 
-/// Adds from which strand an edge leads to which, up to what is written beside it.
-fn push_ends<A: Allocator>(text: &mut Vec<u8, A>, from: u32, to: u32) -> Result<(), AllocError>
-    ensures { OnOk result (text.new.items
-        ≡ text.old.items ++ codes "  " ++ decimal from ++ codes " -> " ++ decimal to ++ codes " [label=\"") }
-{
-    push_numbers(text, "  ", u64::from(from), " -> ", u64::from(to))?;
-    push_words(text, " [label=\"")
-}
-
 /// Adds an edge.
 fn push_edge<A: Allocator>(text: &mut Vec<u8, A>, edge: &Edge) -> Result<(), AllocError>
     ensures { OnOk result (text.new.items ≡ text.old.items ++ edge_text edge.now) }
 {
-    push_ends(text, edge.from, edge.to)?;
+    let ends = [u64::from(edge.from), u64::from(edge.to)];
+    push_filled(text, "  # -> # [label=\"", &ends)?;
     push_words(text, word_of(edge.kind))?;
     push_words(text, "\"];\n")
 }
@@ -137,8 +123,23 @@ fn red() -> &'static str
     "\", color=red, fontcolor=red, constraint=false];\n"
 }
 
+/// Adds a race, beside which this is written.
+fn push_arc<A: Allocator>(text: &mut Vec<u8, A>, race: &Race, label: &str) -> Result<(), AllocError>
+    ensures { OnOk result (text.new.items
+        ≡ text.old.items ++ (codes "  " ++ decimal race.now.witness.strand ++ codes " -> " ++ decimal race.now.request.strand ++
+        codes " [label=\"" ++ escaped label.now ++ red_text)) }
+{
+    let ends = [
+        u64::from(race.witness.strand),
+        u64::from(race.request.strand),
+    ];
+    push_filled(text, "  # -> # [label=\"", &ends)?;
+    push_escaped(text, label)?;
+    push_words(text, red())
+}
+
 /// Adds a race.
-fn push_arc<A: Allocator + Copy>(
+fn push_race<A: Allocator + Copy>(
     alloc: A,
     text: &mut Vec<u8, A>,
     names: &Names<'_, A>,
@@ -147,13 +148,12 @@ fn push_arc<A: Allocator + Copy>(
     requires numbered { IsTrue (is_numbered 0 names.now.mems.now) }
     ensures { OnOk result (text.new.items ≡ text.old.items ++ arc_text (naming_of names.now) race.now) }
 {
-    push_ends(text, race.witness.strand, race.request.strand)?;
-    push_escaped(text, race_label(alloc, names, race)?.as_str())?;
-    push_words(text, red())
+    let label = race_label(alloc, names, race)?;
+    push_arc(text, race, label.as_str())
 }
 
 /// Adds races.
-fn push_arcs<A: Allocator + Copy>(
+fn push_races<A: Allocator + Copy>(
     alloc: A,
     text: &mut Vec<u8, A>,
     names: &Names<'_, A>,
@@ -163,7 +163,7 @@ fn push_arcs<A: Allocator + Copy>(
     ensures { OnOk result (text.new.items ≡ text.old.items ++ flat_map (arc_text (naming_of names.now)) races.now) }
 {
     for race in races {
-        push_arc(alloc, text, names, race)?;
+        push_race(alloc, text, names, race)?;
     }
     Ok(())
 }
@@ -180,6 +180,26 @@ fn push_heading<A: Allocator>(text: &mut Vec<u8, A>, runs: &[String<A>]) -> Resu
     push_words(text, "\";\n")
 }
 
+/// Adds a drawing.
+fn push_graph<A: Allocator + Copy>(
+    alloc: A,
+    text: &mut Vec<u8, A>,
+    names: &Names<'_, A>,
+    drawing: &Drawing<A>,
+) -> Result<(), AllocError>
+    requires numbered { IsTrue (is_numbered 0 names.now.mems.now) }
+    ensures { OnOk result (text.new.items ≡ text.old.items ++ dot_text (naming_of names.now) drawing.now) }
+{
+    let strands = drawing.strands.as_slice();
+    let accesses = drawing.accesses.as_slice();
+    push_words(text, "digraph trace {\n")?;
+    push_heading(text, names.notes.runs())?;
+    push_boxes(alloc, text, names, strands, accesses)?;
+    push_edges(text, drawing.edges.as_slice())?;
+    push_races(alloc, text, names, drawing.races.as_slice())?;
+    push_words(text, "}\n")
+}
+
 /// The text of a drawing in Graphviz's language: above the graph what was recorded, a node for each strand, an edge for each edge of the
 /// dag, and a red edge for each race. Errors where there is no memory.
 pub fn dot_text<A: Allocator + Copy>(
@@ -191,13 +211,6 @@ pub fn dot_text<A: Allocator + Copy>(
     ensures { IfOk result (λ text. text.items ≡ dot_text (naming_of names.now) drawing.now) }
 {
     let mut text = Vec::new(alloc);
-    push_words(&mut text, "digraph trace {\n")?;
-    push_heading(&mut text, names.notes.runs())?;
-    let strands = drawing.strands.as_slice();
-    let accesses = drawing.accesses.as_slice();
-    push_boxes(alloc, &mut text, names, strands, accesses)?;
-    push_edges(&mut text, drawing.edges.as_slice())?;
-    push_arcs(alloc, &mut text, names, drawing.races.as_slice())?;
-    push_words(&mut text, "}\n")?;
+    push_graph(alloc, &mut text, names, drawing)?;
     Ok(text)
 }

@@ -4,9 +4,9 @@ ghost use Rattle.std.specs.Prelude.{◌≡◌, filter, reverse, IfOk, MatchOptio
 ghost use Rattle.model_histories.specs.Entries.{control_part};
 ghost use Rattle.dag_drawing.specs.Walks.{IsLegalHistory};
 ghost use Rattle.dag_drawing.specs.Told.{access_told, accesses_told, race_told, races_told};
-ghost use Rattle.dag_drawing.specs.Drawn.{IsDrawing, HasMoreStrands, marked_from, has_mark};
+ghost use Rattle.dag_drawing.specs.Drawn.{AreAccesses, IsDrawing, HasMoreStrands, marked_from, has_mark};
 
-use crate::walk::walk_entries;
+use crate::walk::{Walk, walk_entries};
 use access_table::asked_by;
 use model_accesses::Witness;
 use race_gate::{Answer, Entry};
@@ -173,6 +173,41 @@ fn edges_to<A: Allocator + Copy>(
     Ok(kept)
 }
 
+/// The accesses by their strands, and those of one strand in order of entries.
+fn sorted_accesses<A: Allocator + Copy>(
+    alloc: A,
+    entries: &[Entry],
+) -> Result<Vec<Access, A>, AllocError>
+    ensures { IfOk result (λ accesses. AreAccesses entries.now accesses.items) }
+{
+    let mut accesses = accesses_of(alloc, entries)?;
+    accesses.sort_by_key(|access| access.request.strand)?;
+    Ok(accesses)
+}
+
+/// The drawing of entries with these strands.
+fn drawing_of<A: Allocator + Copy>(
+    alloc: A,
+    entries: &[Entry],
+    walk: &Walk<A>,
+    strands: Vec<usize, A>,
+) -> Result<Drawing<A>, AllocError>
+    ensures strands { IfOk result (λ drawing. drawing.strands.items ≡ strands.items) }
+    ensures edges { IfOk result (λ drawing. drawing.edges.items ≡ filter (has_mark walk.now.begun.items) walk.now.edges.items) }
+    ensures accesses { IfOk result (λ drawing. AreAccesses entries.now drawing.accesses.items) }
+    ensures races { IfOk result (λ drawing. drawing.races.items ≡ races_told entries.now) }
+{
+    let edges = edges_to(alloc, walk.edges.as_slice(), walk.begun.as_slice())?;
+    let accesses = sorted_accesses(alloc, entries)?;
+    let races = races_of(alloc, entries)?;
+    Ok(Drawing {
+        strands,
+        edges,
+        accesses,
+        races,
+    })
+}
+
 /// The drawing of a history, whose entries are given from the oldest on, or None exactly where more than [`MOST_STRANDS`] strands have
 /// begun. Its time is that of sorting the entries, and its memory is linear in their number. Errors where there is no memory.
 pub fn draw<A: Allocator + Copy>(
@@ -187,14 +222,5 @@ pub fn draw<A: Allocator + Copy>(
     if strands.len() > MOST_STRANDS {
         return Ok(None);
     }
-    let edges = edges_to(alloc, walk.edges.as_slice(), walk.begun.as_slice())?;
-    let mut accesses = accesses_of(alloc, entries)?;
-    accesses.sort_by_key(|access| access.request.strand)?;
-    let races = races_of(alloc, entries)?;
-    Ok(Some(Drawing {
-        strands,
-        edges,
-        accesses,
-        races,
-    }))
+    Ok(Some(drawing_of(alloc, entries, &walk, strands)?))
 }

@@ -1,11 +1,12 @@
 //! What is written beside the strands and the races of a drawing.
 
-ghost use Rattle.std.specs.Prelude.{◌≡◌, ◌++◌, ◌≤◌, IfOk, OnOk, IsTrue, codes, decimal, length, map, take, string_bytes};
+ghost use Rattle.std.specs.Prelude.{◌≡◌, ◌++◌, ◌∷◌, ◌≤◌, ℕ, List, [], IfOk, OnOk, IsTrue, decimal, length, map, take, string_bytes, unwrap_or};
 ghost use Rattle.std.specs.Option.{option_map};
 ghost use Rattle.trace_text.specs.Shapes.{is_numbered};
+ghost use Rattle.trace_notes.specs.Notes.{noted_text};
 ghost use Rattle.trace_notes.specs.Places.{place_parts};
 ghost use Rattle.dag_drawing.specs.Texts.{kind_text, outcome_text, rule_text, count_own};
-ghost use Rattle.dag_drawing.specs.Labels.{naming_of, plain_name, told_name, place_of, site_text, access_line, first_place, function_text};
+ghost use Rattle.dag_drawing.specs.Labels.{naming_of, plain_name, place_of, site_text, access_line, first_place, function_text};
 ghost use Rattle.dag_drawing.specs.Labels.{head_line, most_told, rest_lines, node_lines, race_label};
 
 use crate::drawing::{Access, Race};
@@ -31,11 +32,24 @@ pub struct Names<'a, A: Allocator> {
     pub notes: &'a Notes<A>,
 }
 
-/// Adds a number.
-fn put_number<A: Allocator>(line: &mut String<A>, number: usize) -> Result<(), AllocError>
-    ensures { OnOk result (string_bytes line.new ≡ string_bytes line.old ++ decimal number) }
+/// Adds the name that the trace declares for what an act accesses.
+fn put_plain_name<A: Allocator>(
+    name: &mut String<A>,
+    names: &Names<'_, A>,
+    act: Act,
+) -> Result<(), AllocError>
+    requires numbered { IsTrue (is_numbered 0 names.now.mems.now) }
+    ensures { OnOk result (string_bytes name.new ≡ string_bytes name.old ++ plain_name (naming_of names.now) act) }
 {
-    write!(line, "{number}")
+    match act {
+        Act::Read(location) | Act::Write(location, _) | Act::Bump(location, _) => {
+            put_cell_name(name, names.mems, location)
+        }
+        Act::Update(reducer, _) | Act::Put(reducer, _) | Act::Get(reducer) => {
+            name.push_str(reducer_name(names.reducers, reducer))
+        }
+        Act::Spawn | Act::Sync | Act::Call | Act::Return => Ok(()),
+    }
 }
 
 /// The name that the trace declares for what an act accesses.
@@ -48,29 +62,17 @@ fn plain_name<A: Allocator + Copy>(
     ensures { IfOk result (λ name. string_bytes name ≡ plain_name (naming_of names.now) act) }
 {
     let mut name = String::new(alloc);
-    match act {
-        Act::Read(location) | Act::Write(location, _) | Act::Bump(location, _) => {
-            put_cell_name(&mut name, names.mems, location)?
-        }
-        Act::Update(reducer, _) | Act::Put(reducer, _) | Act::Get(reducer) => {
-            name.push_str(reducer_name(names.reducers, reducer))?
-        }
-        Act::Spawn | Act::Sync | Act::Call | Act::Return => {}
-    }
+    put_plain_name(&mut name, names, act)?;
     Ok(name)
 }
 
-/// Adds what the notes say that a name stands for, or the name.
-fn put_display_name<A: Allocator + Copy>(
-    line: &mut String<A>,
-    names: &Names<'_, A>,
-    name: &str,
-) -> Result<(), AllocError>
-    ensures { OnOk result (string_bytes line.new ≡ string_bytes line.old ++ told_name (naming_of names.now) name.now) }
+/// What the notes say that a name stands for, or the name.
+fn told_name<'a, A: Allocator + Copy>(notes: &'a Notes<A>, name: &'a str) -> &'a str
+    ensures { result.now ≡ unwrap_or (noted_text notes.now name.now) name.now }
 {
-    match names.notes.text_of(name) {
-        Some(text) => line.push_str(text),
-        None => line.push_str(name),
+    match notes.text_of(name) {
+        Some(text) => text,
+        None => name,
     }
 }
 
@@ -112,28 +114,28 @@ fn put_site<A: Allocator + Copy>(
 {
     match place_of(names, access) {
         Some(place) => line.push_str(place.location),
-        None => put_number(line, access.entry),
+        None => {
+            let entry = access.entry;
+            write!(line, "{entry}")
+        }
     }
 }
 
-/// The line of an access, of what has this name.
-fn line_of<A: Allocator + Copy>(
-    alloc: A,
+/// Adds the line of an access, of what has this name.
+fn put_access<A: Allocator + Copy>(
+    line: &mut String<A>,
     names: &Names<'_, A>,
     access: &Access,
     name: &str,
-) -> Result<String<A>, AllocError>
+) -> Result<(), AllocError>
     requires { name.now ≡ plain_name (naming_of names.now) access.now.request.act }
-    ensures { IfOk result (λ line. string_bytes line ≡ access_line (naming_of names.now) access.now) }
+    ensures { OnOk result (string_bytes line.new ≡ string_bytes line.old ++ access_line (naming_of names.now) access.now) }
 {
-    let mut line = String::new(alloc);
-    put_site(&mut line, names, access)?;
-    line.push_str(" ")?;
-    line.push_str(kind_of_act(access.request.act))?;
-    line.push_str(" ")?;
-    put_display_name(&mut line, names, name)?;
-    line.push_str(outcome(access.answer))?;
-    Ok(line)
+    put_site(line, names, access)?;
+    let kind = kind_of_act(access.request.act);
+    let told = told_name(names.notes, name);
+    let outcome = outcome(access.answer);
+    write!(line, " {kind} {told}{outcome}")
 }
 
 /// The line of an access.
@@ -146,7 +148,9 @@ fn access_line<A: Allocator + Copy>(
     ensures { IfOk result (λ line. string_bytes line ≡ access_line (naming_of names.now) access.now) }
 {
     let name = plain_name(alloc, names, access.request.act)?;
-    line_of(alloc, names, access, name.as_str())
+    let mut line = String::new(alloc);
+    put_access(&mut line, names, access, name.as_str())?;
+    Ok(line)
 }
 
 /// The place of the first access that has one.
@@ -161,12 +165,13 @@ fn first_place<'a, A: Allocator + Copy>(names: &Names<'a, A>, own: &[Access]) ->
     None
 }
 
-/// Adds the function of a place.
-fn put_function<A: Allocator>(
-    line: &mut String<A>,
+/// The first line of a strand whose first place is this.
+fn line_at<A: Allocator>(
+    alloc: A,
+    strand: usize,
     place: Option<Place<'_>>,
-) -> Result<(), AllocError>
-    ensures { OnOk result (string_bytes line.new ≡ string_bytes line.old ++ function_text (option_map place_parts place.entry)) }
+) -> Result<String<A>, AllocError>
+    ensures { IfOk result (λ line. string_bytes line ≡ decimal strand ++ function_text (option_map place_parts place.entry)) }
 {
     match place {
         Some(
@@ -174,27 +179,35 @@ fn put_function<A: Allocator>(
                 function: Some(function),
                 ..
             },
-        ) => {
-            line.push_str(" in ")?;
-            line.push_str(function)
-        }
-        _ => Ok(()),
+        ) => format!(in alloc; "{strand} in {function}"),
+        _ => format!(in alloc; "{strand}"),
     }
 }
 
-/// The first line of a strand.
-fn head_line<A: Allocator + Copy>(
+/// Adds a line that was made, where there was memory for it.
+fn add_line<A: Allocator>(
+    lines: &mut Vec<String<A>, A>,
+    made: Result<String<A>, AllocError>,
+) -> Result<(), AllocError>
+    ensures { (line : List ℕ) → IfOk made (λ text. string_bytes text ≡ line) →
+        OnOk result (map string_bytes lines.new.items ≡ map string_bytes lines.old.items ++ line ∷ []) }
+{
+    lines.push(made?)?;
+    Ok(())
+}
+
+/// Adds the first line of a strand.
+fn add_head<A: Allocator + Copy>(
     alloc: A,
+    lines: &mut Vec<String<A>, A>,
     names: &Names<'_, A>,
     strand: usize,
     own: &[Access],
-) -> Result<String<A>, AllocError>
-    ensures { IfOk result (λ line. string_bytes line ≡ head_line (naming_of names.now) strand own.now) }
+) -> Result<(), AllocError>
+    ensures { OnOk result (map string_bytes lines.new.items ≡ map string_bytes lines.old.items ++ head_line (naming_of names.now) strand own.now ∷ []) }
 {
-    let mut line = String::new(alloc);
-    put_number(&mut line, strand)?;
-    put_function(&mut line, first_place(names, own))?;
-    Ok(line)
+    let place = first_place(names, own);
+    add_line(lines, line_at(alloc, strand, place))
 }
 
 /// Adds the lines of accesses.
@@ -208,20 +221,9 @@ fn add_accesses<A: Allocator + Copy>(
     ensures { OnOk result (map string_bytes lines.new.items ≡ map string_bytes lines.old.items ++ map (access_line (naming_of names.now)) told.now) }
 {
     for access in told {
-        lines.push(access_line(alloc, names, access)?)?;
+        add_line(lines, access_line(alloc, names, access))?;
     }
     Ok(())
-}
-
-/// The line that says how many accesses are not told.
-fn rest_line<A: Allocator + Copy>(alloc: A, rest: usize) -> Result<String<A>, AllocError>
-    ensures { IfOk result (λ line. string_bytes line ≡ codes "and " ++ decimal rest ++ codes " more") }
-{
-    let mut line = String::new(alloc);
-    line.push_str("and ")?;
-    put_number(&mut line, rest)?;
-    line.push_str(" more")?;
-    Ok(line)
 }
 
 /// Adds how many accesses are not told.
@@ -233,9 +235,11 @@ fn add_rest<A: Allocator + Copy>(
     ensures { OnOk result (map string_bytes lines.new.items ≡ map string_bytes lines.old.items ++ rest_lines count) }
 {
     if count > MOST_TOLD {
-        lines.push(rest_line(alloc, count - MOST_TOLD)?)?;
+        let rest = count - MOST_TOLD;
+        add_line(lines, format!(in alloc; "and {rest} more"))
+    } else {
+        Ok(())
     }
-    Ok(())
 }
 
 /// The accesses that are told.
@@ -250,6 +254,22 @@ fn first_accesses(own: &[Access]) -> &[Access]
     }
 }
 
+/// Adds the lines of a strand with its accesses.
+fn add_lines<A: Allocator + Copy>(
+    alloc: A,
+    lines: &mut Vec<String<A>, A>,
+    names: &Names<'_, A>,
+    strand: usize,
+    own: &[Access],
+) -> Result<(), AllocError>
+    requires numbered { IsTrue (is_numbered 0 names.now.mems.now) }
+    ensures { OnOk result (map string_bytes lines.new.items ≡ map string_bytes lines.old.items ++ node_lines (naming_of names.now) strand own.now) }
+{
+    add_head(alloc, lines, names, strand, own)?;
+    add_accesses(alloc, lines, names, first_accesses(own))?;
+    add_rest(alloc, lines, own.len())
+}
+
 /// The lines of a strand with its accesses.
 pub fn node_lines<A: Allocator + Copy>(
     alloc: A,
@@ -261,9 +281,7 @@ pub fn node_lines<A: Allocator + Copy>(
     ensures { IfOk result (λ lines. map string_bytes lines.items ≡ node_lines (naming_of names.now) strand own.now) }
 {
     let mut lines = Vec::new(alloc);
-    lines.push(head_line(alloc, names, strand, own)?)?;
-    add_accesses(alloc, &mut lines, names, first_accesses(own))?;
-    add_rest(alloc, &mut lines, own.len())?;
+    add_lines(alloc, &mut lines, names, strand, own)?;
     Ok(lines)
 }
 
@@ -280,6 +298,21 @@ fn rule_of(act: Act, earlier: Kind) -> &'static str
     }
 }
 
+/// What is written beside a race about what has this name.
+fn label_of<A: Allocator + Copy>(
+    alloc: A,
+    names: &Names<'_, A>,
+    race: &Race,
+    name: &str,
+) -> Result<String<A>, AllocError>
+    requires { name.now ≡ plain_name (naming_of names.now) race.now.request.act }
+    ensures { IfOk result (λ label. string_bytes label ≡ race_label (naming_of names.now) race.now) }
+{
+    let rule = rule_of(race.request.act, race.witness.kind);
+    let told = told_name(names.notes, name);
+    format!(in alloc; "{rule} on {told}")
+}
+
 /// What is written beside a race.
 pub fn race_label<A: Allocator + Copy>(
     alloc: A,
@@ -290,11 +323,7 @@ pub fn race_label<A: Allocator + Copy>(
     ensures { IfOk result (λ label. string_bytes label ≡ race_label (naming_of names.now) race.now) }
 {
     let name = plain_name(alloc, names, race.request.act)?;
-    let mut label = String::new(alloc);
-    label.push_str(rule_of(race.request.act, race.witness.kind))?;
-    label.push_str(" on ")?;
-    put_display_name(&mut label, names, name.as_str())?;
-    Ok(label)
+    label_of(alloc, names, race, name.as_str())
 }
 
 /// How many of the accesses at the head of a slice are the strand's.

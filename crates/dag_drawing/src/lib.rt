@@ -9,6 +9,7 @@
 //! `svg_text` of `specs/Pictures` say.
 #![tactic(auto)]
 
+mod blanks;
 mod dot;
 mod drawing;
 mod form;

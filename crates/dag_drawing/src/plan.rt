@@ -2,7 +2,7 @@
 
 ghost use Rattle.std.specs.Prelude.{◌≡◌, ◌+◌, ◌-◌, ◌*◌, ◌<◌, ◌≤◌, ◌^◌, max, IfOk, IsTrue, length, map, replicate, slice_index_or, slice_set, string_bytes};
 ghost use Rattle.trace_text.specs.Shapes.{is_numbered};
-ghost use Rattle.dag_drawing.specs.Labels.{naming_of, title_lines};
+ghost use Rattle.dag_drawing.specs.Labels.{naming_of, node_lines, title_lines};
 ghost use Rattle.dag_drawing.specs.Plans.{stepped, capped, deepened, depths_by, counted, counts_by, columns_by, greatest, longest, longest_line, most_lines};
 ghost use Rattle.dag_drawing.specs.Plans.{measures_by, plan_of, plan, last_of, left_at, middle_at, top_at, width_of, height_of};
 
@@ -197,6 +197,25 @@ struct Sizes {
     lines: usize,
 }
 
+/// These sizes, or those of what is written of a strand where they are larger.
+fn larger<A: Allocator + Copy>(
+    alloc: A,
+    names: &Names<'_, A>,
+    sizes: Sizes,
+    strand: usize,
+    own: &[Access],
+) -> Result<Sizes, AllocError>
+    requires numbered { IsTrue (is_numbered 0 names.now.mems.now) }
+    ensures length { IfOk result (λ larger. larger.length ≡ longest sizes.length (node_lines (naming_of names.now) strand own.now)) }
+    ensures lines { IfOk result (λ larger. larger.lines ≡ max sizes.lines (length (node_lines (naming_of names.now) strand own.now))) }
+{
+    let lines = node_lines(alloc, names, strand, own)?;
+    Ok(Sizes {
+        length: longest(sizes.length, lines.as_slice()),
+        lines: sizes.lines.max(lines.len()),
+    })
+}
+
 /// The sizes of what is written of strands.
 fn sizes_of<A: Allocator + Copy>(
     alloc: A,
@@ -208,20 +227,17 @@ fn sizes_of<A: Allocator + Copy>(
     ensures length { IfOk result (λ sizes. sizes.length ≡ longest_line (naming_of names.now) 0 strands.now accesses.now) }
     ensures lines { IfOk result (λ sizes. sizes.lines ≡ most_lines (naming_of names.now) 0 strands.now accesses.now) }
 {
-    let mut length = 0;
-    let mut most = 0;
+    let mut sizes = Sizes {
+        length: 0,
+        lines: 0,
+    };
     let mut rest = accesses;
     for strand in strands {
         let (own, others) = rest.split_at(own_of(*strand, rest));
-        let lines = node_lines(alloc, names, *strand, own)?;
-        length = longest(length, lines.as_slice());
-        most = most.max(lines.len());
+        sizes = larger(alloc, names, sizes, *strand, own)?;
         rest = others;
     }
-    Ok(Sizes {
-        length,
-        lines: most,
-    })
+    Ok(sizes)
 }
 
 /// The measures of a picture with boxes of these sizes below a title.

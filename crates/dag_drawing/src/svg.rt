@@ -1,14 +1,16 @@
 //! The text of a drawing in SVG.
 
-ghost use Rattle.std.specs.Prelude.{◌≡◌, ◌++◌, ◌+◌, ◌-◌, ◌≤◌, OnOk, IfOk, IsTrue, codes, decimal, flat_map, length, map, string_bytes, take};
+ghost use Rattle.std.specs.Prelude.{◌≡◌, ◌++◌, ◌∷◌, ◌≤◌, [], OnOk, IfOk, IsTrue, flat_map, length, map, string_bytes, take, unwrap_or};
+ghost use Rattle.std.specs.Option.{option_map};
 ghost use Rattle.trace_text.specs.Shapes.{is_numbered};
 ghost use Rattle.dag_drawing.specs.Labels.{naming_of, title_lines};
-ghost use Rattle.dag_drawing.specs.Plans.{plan_of, middle_at, top_at, most_title_lines, most_title_characters};
-ghost use Rattle.dag_drawing.specs.Pictures.{xml_byte, xml_text, cut_text, line_text, lines_text, edge_text, box_height, rect_text, node_text, nodes_text};
-ghost use Rattle.dag_drawing.specs.Pictures.{rise, ends_text, curve_text, arc_text, label_text, race_text, races_text, style_text, head_text, title_text};
+ghost use Rattle.dag_drawing.specs.Plans.{plan_of, most_title_lines};
+ghost use Rattle.dag_drawing.specs.Pictures.{xml_byte, xml_text, cut_text, line_text, lines_text, edge_text, box_height, node_text, nodes_text};
+ghost use Rattle.dag_drawing.specs.Pictures.{rise, ends_text, arc_text, label_text, race_text, races_text, style_text, head_text, title_text};
 ghost use Rattle.dag_drawing.specs.Pictures.{picture_text, svg_text};
 
-use crate::dot::{push_numbers, word_of};
+use crate::blanks::push_filled;
+use crate::dot::word_of;
 use crate::drawing::{Access, Drawing, Edge, Race};
 use crate::labels::{Names, node_lines, own_of, race_label};
 use crate::plan::{
@@ -16,23 +18,30 @@ use crate::plan::{
     layout_of,
 };
 use std::alloc::{AllocError, Allocator};
-use text_buffers::{push_number, push_words};
+use text_buffers::push_words;
+
+/// What a byte stands as in XML, where not as itself.
+fn xml_word(byte: u8) -> Option<&'static str>
+    ensures { unwrap_or (option_map (λ word. word.now) result) (byte ∷ []) ≡ xml_byte byte }
+{
+    match byte {
+        b'&' => Some("&amp;"),
+        b'<' => Some("&lt;"),
+        b'>' => Some("&gt;"),
+        b'"' => Some("&quot;"),
+        b'\'' => Some("&apos;"),
+        b' '..=b'~' => None,
+        _ => Some("?"),
+    }
+}
 
 /// Adds a byte as it stands in XML.
 fn push_xml_byte<A: Allocator>(text: &mut Vec<u8, A>, byte: u8) -> Result<(), AllocError>
     ensures { OnOk result (text.new.items ≡ text.old.items ++ xml_byte byte) }
 {
-    match byte {
-        b'&' => push_words(text, "&amp;"),
-        b'<' => push_words(text, "&lt;"),
-        b'>' => push_words(text, "&gt;"),
-        b'"' => push_words(text, "&quot;"),
-        b'\'' => push_words(text, "&apos;"),
-        b' '..=b'~' => {
-            text.push(byte)?;
-            Ok(())
-        }
-        _ => push_words(text, "?"),
+    match xml_word(byte) {
+        Some(word) => push_words(text, word),
+        None => text.extend_from_slice(&[byte]),
     }
 }
 
@@ -69,8 +78,7 @@ fn push_line<A: Allocator>(
 ) -> Result<(), AllocError>
     ensures { OnOk result (text.new.items ≡ text.old.items ++ line_text most left line.now) }
 {
-    push_number(text, "<tspan x=\"", left)?;
-    push_words(text, "\" dy=\"16\">")?;
+    push_filled(text, "<tspan x=\"#\" dy=\"16\">", &[left])?;
     push_cut(text, most, line)?;
     push_words(text, "</tspan>")
 }
@@ -90,45 +98,6 @@ fn push_lines<A: Allocator>(
     Ok(())
 }
 
-/// Adds from which strand something leads to which, behind words.
-fn push_ends<A: Allocator>(
-    text: &mut Vec<u8, A>,
-    before: &str,
-    from: u32,
-    to: u32,
-) -> Result<(), AllocError>
-    ensures { OnOk result (text.new.items ≡ text.old.items ++ before.now ++ decimal from ++ codes "\" data-to=\"" ++ decimal to) }
-{
-    push_numbers(
-        text,
-        before,
-        u64::from(from),
-        "\" data-to=\"",
-        u64::from(to),
-    )
-}
-
-/// Adds the middle and the height of the top of a strand's box, each behind its words.
-fn push_top<A: Allocator>(
-    text: &mut Vec<u8, A>,
-    before: &str,
-    between: &str,
-    layout: &Layout<A>,
-    strand: u32,
-) -> Result<(), AllocError>
-    ensures { OnOk result (text.new.items
-        ≡ text.old.items ++ before.now ++ decimal (middle_at (plan_of layout.now) strand) ++ between.now ++ decimal (top_at (plan_of layout.now) strand)) }
-{
-    let strand = strand as usize;
-    push_numbers(
-        text,
-        before,
-        layout.middle(strand),
-        between,
-        layout.top(strand),
-    )
-}
-
 /// Adds an edge.
 fn push_edge<A: Allocator>(
     text: &mut Vec<u8, A>,
@@ -137,14 +106,22 @@ fn push_edge<A: Allocator>(
 ) -> Result<(), AllocError>
     ensures { OnOk result (text.new.items ≡ text.old.items ++ edge_text (plan_of layout.now) edge.now) }
 {
-    let from = edge.from;
-    let to = edge.to;
+    let from = edge.from as usize;
+    let to = edge.to as usize;
     push_words(text, "<line class=\"")?;
     push_words(text, word_of(edge.kind))?;
-    push_ends(text, "\" data-from=\"", from, to)?;
-    push_top(text, "\" x1=\"", "\" y1=\"", layout, from)?;
-    push_top(text, "\" x2=\"", "\" y2=\"", layout, to)?;
-    push_words(text, "\"/>\n")
+    push_filled(
+        text,
+        "\" data-from=\"#\" data-to=\"#\" x1=\"#\" y1=\"#\" x2=\"#\" y2=\"#\"/>\n",
+        &[
+            from as u64,
+            to as u64,
+            layout.middle(from),
+            layout.top(from),
+            layout.middle(to),
+            layout.top(to),
+        ],
+    )
 }
 
 /// Adds edges.
@@ -168,29 +145,6 @@ fn box_height(lines: usize) -> u64
     16 * u64::from(at_most(MOST_BOX_LINES, lines)) + 8
 }
 
-/// Adds the box of a strand.
-fn push_rect<A: Allocator>(
-    text: &mut Vec<u8, A>,
-    layout: &Layout<A>,
-    strand: usize,
-    lines: usize,
-) -> Result<(), AllocError>
-    ensures { OnOk result (text.new.items ≡ text.old.items ++ rect_text (plan_of layout.now) strand lines) }
-{
-    push_number(text, "<g id=\"strand-", strand as u64)?;
-    let left = layout.left_edge(strand);
-    push_numbers(text, "\">\n<rect x=\"", left, "\" y=\"", layout.top(strand))?;
-    let width = layout.box_width();
-    push_numbers(
-        text,
-        "\" width=\"",
-        width,
-        "\" height=\"",
-        box_height(lines),
-    )?;
-    push_words(text, "\"/>\n")
-}
-
 /// Adds a strand with the lines of its box.
 fn push_node<A: Allocator>(
     text: &mut Vec<u8, A>,
@@ -200,10 +154,16 @@ fn push_node<A: Allocator>(
 ) -> Result<(), AllocError>
     ensures { OnOk result (text.new.items ≡ text.old.items ++ node_text (plan_of layout.now) strand (map string_bytes lines.now)) }
 {
-    push_rect(text, layout, strand, lines.len())?;
-    push_number(text, "<text y=\"", layout.top(strand))?;
-    push_words(text, "\">")?;
-    push_lines(text, MOST_CHARACTERS, layout.left_edge(strand) + 8, lines)?;
+    let left = layout.left_edge(strand);
+    let top = layout.top(strand);
+    let width = layout.box_width();
+    let height = box_height(lines.len());
+    push_filled(
+        text,
+        "<g id=\"strand-#\">\n<rect x=\"#\" y=\"#\" width=\"#\" height=\"#\"/>\n<text y=\"#\">",
+        &[strand as u64, left, top, width, height, top],
+    )?;
+    push_lines(text, MOST_CHARACTERS, left + 8, lines)?;
     push_words(text, "</text>\n</g>\n")
 }
 
@@ -237,54 +197,8 @@ fn rise(number: usize) -> u64
     24 + 12 * (number % 5) as u64
 }
 
-/// Adds the arc from one place to another, by a height above each.
-fn push_curve<A: Allocator>(
-    text: &mut Vec<u8, A>,
-    from: (u64, u64, u64),
-    to: (u64, u64, u64),
-) -> Result<(), AllocError>
-    ensures { OnOk result (text.new.items ≡ text.old.items ++ curve_text from.0 from.1 from.2 to.0 to.1 to.2) }
-{
-    push_numbers(text, "<path d=\"M ", from.0, " ", from.1)?;
-    push_numbers(text, " C ", from.0, " ", from.2)?;
-    push_numbers(text, " ", to.0, " ", to.2)?;
-    push_numbers(text, " ", to.0, " ", to.1)?;
-    push_words(text, "\"/>\n")
-}
-
-/// The place of an arc's end at a strand, and the height above it.
-fn end_of<A: Allocator>(layout: &Layout<A>, number: usize, strand: usize) -> (u64, u64, u64)
-    ensures middle { result.0 ≡ middle_at (plan_of layout.now) strand }
-    ensures top { result.1 ≡ top_at (plan_of layout.now) strand }
-    ensures above { result.2 ≡ top_at (plan_of layout.now) strand - rise number }
-{
-    let top = layout.top(strand);
-    (layout.middle(strand), top, top.saturating_sub(rise(number)))
-}
-
-/// Adds between which strands a race is, and the arc from one to the other.
+/// Adds a race, and in the middle of its arc what is written there.
 fn push_arc<A: Allocator>(
-    text: &mut Vec<u8, A>,
-    layout: &Layout<A>,
-    number: usize,
-    race: &Race,
-) -> Result<(), AllocError>
-    ensures { OnOk result (text.new.items ≡ text.old.items ++ ends_text race.now
-        ++ arc_text (plan_of layout.now) number race.now.witness.strand race.now.request.strand) }
-{
-    let from = race.witness.strand;
-    let to = race.request.strand;
-    push_ends(text, "<g class=\"race\" data-from=\"", from, to)?;
-    push_words(text, "\">\n")?;
-    push_curve(
-        text,
-        end_of(layout, number, from as usize),
-        end_of(layout, number, to as usize),
-    )
-}
-
-/// Adds what is written in the middle of an arc.
-fn push_label<A: Allocator>(
     text: &mut Vec<u8, A>,
     layout: &Layout<A>,
     number: usize,
@@ -292,15 +206,34 @@ fn push_label<A: Allocator>(
     label: &str,
 ) -> Result<(), AllocError>
     ensures { OnOk result (text.new.items
-        ≡ text.old.items ++ label_text (plan_of layout.now) number race.now.witness.strand race.now.request.strand label.now) }
+        ≡ text.old.items ++ (ends_text race.now ++ arc_text (plan_of layout.now) number race.now.witness.strand race.now.request.strand ++
+        label_text (plan_of layout.now) number race.now.witness.strand race.now.request.strand label.now)) }
 {
     let from = race.witness.strand as usize;
     let to = race.request.strand as usize;
-    let left = (layout.middle(from) + layout.middle(to)) / 2;
-    let top = (layout.top(from) + layout.top(to)) / 2;
-    let above = top.saturating_sub(rise(number));
-    push_numbers(text, "<text x=\"", left, "\" y=\"", above)?;
-    push_words(text, "\">")?;
+    let x = layout.middle(from);
+    let y = layout.top(from);
+    let other_x = layout.middle(to);
+    let other_y = layout.top(to);
+    let rise = rise(number);
+    push_filled(
+        text,
+        "<g class=\"race\" data-from=\"#\" data-to=\"#\">\n<path d=\"M # # C # # # # # #\"/>\n<text x=\"#\" y=\"#\">",
+        &[
+            from as u64,
+            to as u64,
+            x,
+            y,
+            x,
+            y.saturating_sub(rise),
+            other_x,
+            other_y.saturating_sub(rise),
+            other_x,
+            other_y,
+            (x + other_x) / 2,
+            ((y + other_y) / 2).saturating_sub(rise),
+        ],
+    )?;
     push_xml(text, label.as_bytes())?;
     push_words(text, "</text>\n</g>\n")
 }
@@ -317,9 +250,8 @@ fn push_race<A: Allocator + Copy>(
     requires numbered { IsTrue (is_numbered 0 names.now.mems.now) }
     ensures { OnOk result (text.new.items ≡ text.old.items ++ race_text (plan_of layout.now) (naming_of names.now) number race.now) }
 {
-    push_arc(text, layout, number, race)?;
     let label = race_label(alloc, names, race)?;
-    push_label(text, layout, number, race, label.as_str())
+    push_arc(text, layout, number, race, label.as_str())
 }
 
 /// Adds races.
@@ -350,10 +282,11 @@ fn style() -> &'static str
 fn push_head<A: Allocator>(text: &mut Vec<u8, A>, width: u64, height: u64) -> Result<(), AllocError>
     ensures { OnOk result (text.new.items ≡ text.old.items ++ head_text width height) }
 {
-    let before = "<svg xmlns=\"http://www.w3.org/2000/svg\" width=\"";
-    push_numbers(text, before, width, "\" height=\"", height)?;
-    push_numbers(text, "\" viewBox=\"0 0 ", width, " ", height)?;
-    push_words(text, "\">\n")?;
+    push_filled(
+        text,
+        "<svg xmlns=\"http://www.w3.org/2000/svg\" width=\"#\" height=\"#\" viewBox=\"0 0 # #\">\n",
+        &[width, height, width, height],
+    )?;
     push_words(text, style())
 }
 

@@ -95,17 +95,17 @@ impl<A: Allocator + Copy> Walk<A> {
         ensures blocks { self.new.blocks.items ≡ self.old.blocks.items }
         ensures edges { OnOk result (self.new.edges.items ≡ self.old.edges.items ++ forks strand spawned.child spawned.next) }
     {
-        self.edges.push(Edge {
+        let child = Edge {
             kind: EdgeKind::Child,
             from: strand,
             to: spawned.child,
-        })?;
-        self.edges.push(Edge {
+        };
+        let next = Edge {
             kind: EdgeKind::Next,
             from: strand,
             to: spawned.next,
-        })?;
-        Ok(())
+        };
+        self.edges.extend_from_slice(&[child, next])
     }
 
     /// Adds the edge from a strand that ends to the join of the block round it.
@@ -116,14 +116,17 @@ impl<A: Allocator + Copy> Walk<A> {
         ensures edges { OnOk result (self.new.edges.items
             ≡ self.old.edges.items ++ arrival strand (slice_index_or self.old.blocks.items strand None)) }
     {
-        if let Some(join) = self.blocks[strand as usize] {
-            self.edges.push(Edge {
-                kind: EdgeKind::Join,
-                from: strand,
-                to: join,
-            })?;
+        match self.blocks[strand as usize] {
+            Some(join) => {
+                let edge = Edge {
+                    kind: EdgeKind::Join,
+                    from: strand,
+                    to: join,
+                };
+                self.edges.extend_from_slice(&[edge])
+            }
+            None => Ok(()),
         }
-        Ok(())
     }
 
     /// Marks a join as begun.
@@ -134,6 +137,31 @@ impl<A: Allocator + Copy> Walk<A> {
         ensures edges { self.new.edges.items ≡ self.old.edges.items }
     {
         self.begun[join as usize] = true;
+    }
+
+    /// Adds the strands and the edges of a spawn, and its join where it opens a block.
+    fn spawn(&mut self, strand: u32, spawned: Spawned) -> Result<(), AllocError>
+        requires { strand < length self.now.blocks.items }
+        ensures begun { OnOk result (self.new.begun.items ≡ self.old.begun.items ++ marks_of spawned.first) }
+        ensures blocks { OnOk result (self.new.blocks.items
+            ≡ self.old.blocks.items ++ blocks_of spawned.first spawned.join (slice_index_or self.old.blocks.items strand None)) }
+        ensures edges { OnOk result (self.new.edges.items ≡ self.old.edges.items ++ forks strand spawned.child spawned.next) }
+    {
+        self.place(strand, spawned)?;
+        self.fork(strand, spawned)
+    }
+
+    /// Marks a join as begun, and adds the edge from the strand that began it.
+    fn join(&mut self, strand: u32, join: u32) -> Result<(), AllocError>
+        requires within { strand < length self.now.blocks.items }
+        requires reserved { join < length self.now.begun.items }
+        ensures begun { self.new.begun.items ≡ slice_set self.old.begun.items join true }
+        ensures blocks { self.new.blocks.items ≡ self.old.blocks.items }
+        ensures edges { OnOk result (self.new.edges.items
+            ≡ self.old.edges.items ++ arrival strand (slice_index_or self.old.blocks.items strand None)) }
+    {
+        self.begin(join);
+        self.arrive(strand)
     }
 
     /// Follows the entry that stands behind so many others.
@@ -148,20 +176,9 @@ impl<A: Allocator + Copy> Walk<A> {
         let entry = entries[before];
         let strand = entry.request.strand;
         match entry.answer {
-            Answer::Split(spawned) => {
-                self.place(strand, spawned)?;
-                self.fork(strand, spawned)?;
-                Ok(())
-            }
-            Answer::Joined(join) | Answer::EndedJoined(join) => {
-                self.begin(join);
-                self.arrive(strand)?;
-                Ok(())
-            }
-            Answer::Waits | Answer::Ended => {
-                self.arrive(strand)?;
-                Ok(())
-            }
+            Answer::Split(spawned) => self.spawn(strand, spawned),
+            Answer::Joined(join) | Answer::EndedJoined(join) => self.join(strand, join),
+            Answer::Waits | Answer::Ended => self.arrive(strand),
             _ => Ok(()),
         }
     }

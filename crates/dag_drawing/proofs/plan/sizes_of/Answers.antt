@@ -14,9 +14,9 @@ loop-strand-init g c = (refl, refl)
 pub returns : goal.returns
 returns g c = record {
   length =
-      at_last (λ rest. longest_line (naming_of c.args.names.now) c.loop-strand.length rest c.loop-strand.rest.now) _ _ _ c.loop-strand-test.false
+      at_last (λ rest. longest_line (naming_of c.args.names.now) c.loop-strand.sizes.length rest c.loop-strand.rest.now) _ _ _ c.loop-strand-test.false
       c.loop-strand.invariant.0;
   lines =
-      at_last (λ rest. most_lines (naming_of c.args.names.now) c.loop-strand.most rest c.loop-strand.rest.now) _ _ _ c.loop-strand-test.false
+      at_last (λ rest. most_lines (naming_of c.args.names.now) c.loop-strand.sizes.lines rest c.loop-strand.rest.now) _ _ _ c.loop-strand-test.false
       c.loop-strand.invariant.1;
 }

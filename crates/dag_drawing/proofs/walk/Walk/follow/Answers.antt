@@ -1,38 +1,38 @@
-use Rattle.std.proofs.Common.{◌∙◌}
+use Rattle.dag_drawing.proofs.Pushed.{on_ok, on_all_ok}
 use Rattle.dag_drawing.proofs.Followed.{strand_within, join_within, next_split, next_end, next_join, next_quiet}
 use Rattle.dag_drawing.proofs.walk.Walk.follow.Goals as goal
 
-pub place-requires : goal.place-requires
-place-requires g c = strand_within _ _ _ c.requires.within c.requires.legal _ _ _ c.requires.walk
+pub spawn-requires : goal.spawn-requires
+spawn-requires g c = strand_within _ _ _ c.requires.within c.requires.legal _ _ _ c.requires.walk
 
 pub arrive-requires : goal.arrive-requires
 arrive-requires g c = strand_within _ _ _ c.requires.within c.requires.legal _ _ _ c.requires.walk
 
-pub begin-requires : goal.begin-requires
-begin-requires g c = join_within _ _ _ c.requires.within c.requires.legal _ _ _ c.requires.walk _ c.in-Joined.is
+pub join-requires : goal.join-requires
+join-requires g c = record {
+  within = strand_within _ _ _ c.requires.within c.requires.legal _ _ _ c.requires.walk;
+  reserved = join_within _ _ _ c.requires.within c.requires.legal _ _ _ c.requires.walk _ c.in-Joined.is;
+}
 
-pub arrive-requires-in-Joined : goal.arrive-requires-in-Joined
-arrive-requires-in-Joined g c =
-    rw c.begin.ensures.blocks (strand_within _ _ _ c.requires.within c.requires.legal _ _ _ c.requires.walk)
+pub returns-in-Split : goal.returns-in-Split
+returns-in-Split g c =
+    on_all_ok c.spawn.result _ _ _ _
+    (next_split _ _ _ c.requires.within c.requires.legal _ _ _ _ _ _ c.requires.walk c.in-Split.spawned c.in-Split.is)
+    c.spawn.ensures.begun c.spawn.ensures.blocks c.spawn.ensures.edges
 
-pub returns-in_ok-fork-in-Split : goal.returns-in_ok-fork-in-Split
-returns-in_ok-fork-in-Split g c =
-    next_split _ _ _ c.requires.within c.requires.legal _ _ _ _ _ _ c.requires.walk c.in-Split.spawned c.in-Split.is
-    (c.fork.ensures.begun ∙ c.in_ok-place-in-Split.ensures.begun) (c.fork.ensures.blocks ∙ c.in_ok-place-in-Split.ensures.blocks)
-    (rw c.place.ensures.edges at c.in_ok-fork-in-Split.ensures.edges)
-
-pub returns-in_ok-arrive-in-Waits : goal.returns-in_ok-arrive-in-Waits
-returns-in_ok-arrive-in-Waits g c =
-    next_end _ _ _ c.requires.within c.requires.legal _ _ _ _ _ _ c.requires.walk c.in-Waits.is c.arrive.ensures.begun c.arrive.ensures.blocks
-    c.in_ok-arrive-in-Waits.ensures.edges
+pub returns-in-Waits : goal.returns-in-Waits
+returns-in-Waits g c =
+    on_ok c.arrive.result _ _
+    (next_end _ _ _ c.requires.within c.requires.legal _ _ _ _ _ _ c.requires.walk c.in-Waits.is c.arrive.ensures.begun c.arrive.ensures.blocks)
+    c.arrive.ensures.edges
 
 pub returns-in_default : goal.returns-in_default
 returns-in_default g c =
     next_quiet _ _ _ c.requires.within c.requires.legal _ _ _ c.requires.walk
     (c.in_default.not-Split, c.in_default.not-Joined, c.in_default.not-Waits, c.in_default.not-Ended, c.in_default.not-EndedJoined)
 
-pub returns-in_ok-arrive-in-Joined : goal.returns-in_ok-arrive-in-Joined
-returns-in_ok-arrive-in-Joined g c =
-    next_join _ _ _ c.requires.within c.requires.legal _ _ _ _ _ _ c.requires.walk c.in-Joined.join c.in-Joined.is
-    (c.arrive-in-Joined.ensures.begun ∙ c.begin.ensures.begun) (c.arrive-in-Joined.ensures.blocks ∙ c.begin.ensures.blocks)
-    (rw (c.begin.ensures.edges, c.begin.ensures.blocks) at c.in_ok-arrive-in-Joined.ensures.edges)
+pub returns-in-Joined : goal.returns-in-Joined
+returns-in-Joined g c =
+    on_ok c.join.result _ _
+    (next_join _ _ _ c.requires.within c.requires.legal _ _ _ _ _ _ c.requires.walk c.in-Joined.join c.in-Joined.is c.join.ensures.begun
+    c.join.ensures.blocks) c.join.ensures.edges

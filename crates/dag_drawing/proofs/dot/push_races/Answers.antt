@@ -4,7 +4,7 @@ use Rattle.std.specs.Prelude.{flat_map}
 use Rattle.dag_drawing.specs.Labels.{naming_of}
 use Rattle.dag_drawing.specs.Dots.{arc_text}
 use Rattle.dag_drawing.proofs.Loops.{at_end}
-use Rattle.dag_drawing.proofs.dot.push_arcs.Goals as goal
+use Rattle.dag_drawing.proofs.dot.push_races.Goals as goal
 
 pub loop-race-preserved : goal.loop-race-preserved
 loop-race-preserved g c = grind (arith, common_steps)

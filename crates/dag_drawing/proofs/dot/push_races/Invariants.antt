@@ -2,7 +2,7 @@ use Rattle.std.proofs.Common.{◌≡◌, ◌++◌, drop}
 use Rattle.std.specs.Prelude.{flat_map}
 use Rattle.dag_drawing.specs.Labels.{naming_of}
 use Rattle.dag_drawing.specs.Dots.{arc_text}
-use Rattle.dag_drawing.proofs.dot.push_arcs.Given as goal
+use Rattle.dag_drawing.proofs.dot.push_races.Given as goal
 
 -- what is written so far and what is left are the whole
 abbrev pub invariant-loop-race : goal.invariant-loop-race
