@@ -1,7 +1,7 @@
 //! Judging the requests of a trace, with code of its own for each kind of act.
 //!
-//! The loop of [`judge`] does what this does, and is faster (`bench/judge` measures it), since it is known which replies there may be where
-//! their lines are put:
+//! [`judge`] does what this does, and is faster (`bench/judge` measures it), since [`judge_one`] knows which replies there may be where it
+//! puts their lines:
 //!
 //! ```text
 //! for line in trace.lines.iter() {
@@ -84,7 +84,7 @@ fn tell<A: Allocator, W: Write>(verdicts: &mut Verdicts<A>, output: &mut Watched
 macro_rules! tell_control {
     ($core:ident, $verdicts:ident, $output:ident, $request:ident, $act:expr) => {{
         let reply = $core.reply_to_control($request, $act);
-        tell(&mut $verdicts, $output, &reply);
+        tell($verdicts, $output, &reply);
     }};
 }
 
@@ -138,6 +138,52 @@ fn tell_reducer<A: Allocator + Clone, W: Write>(
     }
 }
 
+/// Judges a request and tells the reply.
+#[inline(always)]
+fn judge_one<A: Allocator + Clone, W: Write>(
+    core: &mut Core<A>,
+    verdicts: &mut Verdicts<A>,
+    output: &mut Watched<W>,
+    request: Request,
+)
+    requires core { IsCore core.old }
+    ensures { (start : GateState) (wrote : Option (List ℕ)) (requests : List SpecRequest) (replies : List SpecReply) →
+        HasJudged start requests replies core.old verdicts.old wrote (W.contents (held output.old)) (has_failed output.old) →
+        (reply : SpecReply) × HasJudged start (requests ++ request ∷ []) (replies ++ reply ∷ []) core.new verdicts.new
+        wrote (W.contents (held output.new)) (has_failed output.new) }
+{
+    match request.act {
+        Act::Spawn => tell_control!(core, verdicts, output, request, ControlAct::Spawn),
+        Act::Sync => tell_control!(core, verdicts, output, request, ControlAct::Sync),
+        Act::Call => tell_control!(core, verdicts, output, request, ControlAct::Call),
+        Act::Return => tell_control!(core, verdicts, output, request, ControlAct::Return),
+        Act::Read(cell) => {
+            let act = CellAct::Read(cell);
+            tell_cell(core, verdicts, output, request, act);
+        }
+        Act::Write(cell, value) => {
+            let act = CellAct::Write(cell, value);
+            tell_cell(core, verdicts, output, request, act);
+        }
+        Act::Bump(cell, value) => {
+            let act = CellAct::Bump(cell, value);
+            tell_cell(core, verdicts, output, request, act);
+        }
+        Act::Update(reducer, value) => {
+            let act = ReducerAct::Update(reducer, value);
+            tell_reducer(core, verdicts, output, request, act);
+        }
+        Act::Put(reducer, value) => {
+            let act = ReducerAct::Put(reducer, value);
+            tell_reducer(core, verdicts, output, request, act);
+        }
+        Act::Get(reducer) => {
+            let act = ReducerAct::Get(reducer);
+            tell_reducer(core, verdicts, output, request, act);
+        }
+    }
+}
+
 /// Judges the requests of a trace in their order, and tells the replies one by one. All memory that this may fail for is taken first, so
 /// nothing is written then.
 pub(crate) fn judge<A: Allocator + Copy, W: Write>(
@@ -159,37 +205,7 @@ pub(crate) fn judge<A: Allocator + Copy, W: Write>(
     };
     core.make_room(trace.lines.likely_strands());
     for line in trace.lines.iter() {
-        let asked = line.request;
-        match asked.act {
-            Act::Spawn => tell_control!(core, verdicts, output, asked, ControlAct::Spawn),
-            Act::Sync => tell_control!(core, verdicts, output, asked, ControlAct::Sync),
-            Act::Call => tell_control!(core, verdicts, output, asked, ControlAct::Call),
-            Act::Return => tell_control!(core, verdicts, output, asked, ControlAct::Return),
-            Act::Read(cell) => {
-                let act = CellAct::Read(cell);
-                tell_cell(&mut core, &mut verdicts, output, asked, act);
-            }
-            Act::Write(cell, value) => {
-                let act = CellAct::Write(cell, value);
-                tell_cell(&mut core, &mut verdicts, output, asked, act);
-            }
-            Act::Bump(cell, value) => {
-                let act = CellAct::Bump(cell, value);
-                tell_cell(&mut core, &mut verdicts, output, asked, act);
-            }
-            Act::Update(reducer, value) => {
-                let act = ReducerAct::Update(reducer, value);
-                tell_reducer(&mut core, &mut verdicts, output, asked, act);
-            }
-            Act::Put(reducer, value) => {
-                let act = ReducerAct::Put(reducer, value);
-                tell_reducer(&mut core, &mut verdicts, output, asked, act);
-            }
-            Act::Get(reducer) => {
-                let act = ReducerAct::Get(reducer);
-                tell_reducer(&mut core, &mut verdicts, output, asked, act);
-            }
-        }
+        judge_one(&mut core, &mut verdicts, output, line.request);
     }
     Ok(verdicts)
 }

@@ -87,7 +87,8 @@ fn is_same_act(one: Act, other: Act) -> bool
     one == other
 }
 
-fn is_same_answer(one: Answer, other: Answer) -> bool
+/// Whether the two are one answer.
+pub fn is_same_answer(one: Answer, other: Answer) -> bool
     ensures { IsTrue result ↔ one ≡ other }
 {
     one == other

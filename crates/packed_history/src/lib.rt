@@ -15,5 +15,6 @@ mod list;
 mod packed;
 mod refusal;
 
+pub use deed::is_same_answer;
 pub use entries::Entries;
 pub use list::Receipts;

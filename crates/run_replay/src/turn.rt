@@ -11,8 +11,9 @@ ghost use Rattle.run_replay.specs.declared.turn.Misfit.{Misfit};
 
 use frame_steps::{Frame, FrameFault, Target};
 use model_accesses::Act;
+use packed_history::is_same_answer;
 use program_text::Program;
-use race_gate::{Answer, Core, Entry, GateFault};
+use race_gate::{Core, Entry, GateFault};
 use std::alloc::Allocator;
 
 /// Why an entry is not played.
@@ -70,12 +71,6 @@ pub fn advance_frame<A: Allocator, B: Allocator>(
         Err(FrameFault::Strange) => Err(Misfit::Strange),
         Err(FrameFault::Memory) => Err(Misfit::Memory),
     }
-}
-
-fn is_same_answer(one: Answer, other: Answer) -> bool
-    ensures { IsTrue result ↔ one ≡ other }
-{
-    one == other
 }
 
 /// Has a core judge an entry's request, and compares the answer. A request that has another fault of the gate than want of
