@@ -4,27 +4,15 @@ ghost use Rattle.std.specs.Prelude.{◌≡◌, ◌<◌, ◌≤◌, false};
 ghost use Rattle.model_histories.specs.Shapes.{most_entries};
 ghost use Rattle.command_streams.specs.Watched.{has_failed};
 
-mod advice;
-mod drawings;
 mod elisions;
-mod explanations;
 mod failures;
-mod groups;
 mod hosts;
 mod kept;
-mod logs;
-mod many;
-mod parts;
 mod pieces;
 mod recorded;
-mod records;
-mod replays;
-mod runs;
 mod schedules;
 mod verdicts;
 mod words;
-mod worked;
-mod wraps;
 
 use crate::devices::Filling;
 use std::alloc::{AllocError, Global};
@@ -52,28 +40,17 @@ enum Command<'a> {
     Trace(usize, u32),
     /// The same, told to a person.
     Explain(usize, u32),
-    /// The same of all pairs that raced.
-    ExplainAll(usize, u32),
-    /// The same of the first pairs of a run in the serial order, with this limit.
-    ExplainSerially(u32),
-    /// The same, told to a program as JSON.
+    /// The same of a run in the serial order, with this limit, told to a program as JSON.
     ExplainAsJson(u32),
-    /// The same, as a log in SARIF.
-    ExplainAsSarif(u32),
     /// Replays this trace as a run of the program that is read.
     Replay(&'a str),
     /// Replays the trace that is read as a run of this program.
     Follow(&'a str),
     /// Draws the trace that is read.
     Draw,
-    /// The same as a picture.
-    Picture,
 }
 
-use Command::{
-    Draw, Elide, Explain, ExplainAll, ExplainAsJson, ExplainAsSarif, ExplainSerially, Follow,
-    Judge, Picture, Replay, Run, Trace,
-};
+use Command::{Draw, Elide, Explain, ExplainAsJson, Follow, Judge, Replay, Run, Trace};
 
 /// A limit that commands take.
 fn check_limit(rt: &impl Abort, limit: u32) -> u32
@@ -132,29 +109,26 @@ struct Telling {
     workers: usize,
     is_serial: bool,
     rendering: Rendering,
-    extent: Extent,
     limit: u32,
 }
 
 impl Telling {
     /// A run by so many workers as text.
-    fn text(workers: usize, extent: Extent, limit: u32) -> Telling {
+    fn text(workers: usize, limit: u32) -> Telling {
         Telling {
             workers,
             is_serial: false,
             rendering: Rendering::Text,
-            extent,
             limit,
         }
     }
 
-    /// The first pairs of a run in the serial order.
-    fn serial(rendering: Rendering, limit: u32) -> Telling {
+    /// A run in the serial order as JSON.
+    fn json(limit: u32) -> Telling {
         Telling {
             workers: 1,
             is_serial: true,
-            rendering,
-            extent: Extent::First,
+            rendering: Rendering::Record(RecordForm::Json),
             limit,
         }
     }
@@ -178,7 +152,7 @@ fn explain<P: Read, R: Abort + Threads + Wait + Sync>(
     let manner = Manner {
         is_painted: false,
         rendering: telling.rendering,
-        extent: telling.extent,
+        extent: Extent::First,
         file: "p.cilk",
     };
     explain_text(
@@ -223,29 +197,16 @@ fn answer_command<P: Read, R: Abort + Threads + Wait + Sync>(
             write_run_trace(rt, alloc, input, workers, &OpenDoor, output, limit)
         }
         Explain(workers, limit) => {
-            let telling = Telling::text(workers, Extent::First, limit);
-            explain(rt, alloc, input, telling, output)
-        }
-        ExplainAll(workers, limit) => {
-            let telling = Telling::text(workers, Extent::All, limit);
-            explain(rt, alloc, input, telling, output)
-        }
-        ExplainSerially(limit) => {
-            let telling = Telling::serial(Rendering::Text, limit);
+            let telling = Telling::text(workers, limit);
             explain(rt, alloc, input, telling, output)
         }
         ExplainAsJson(limit) => {
-            let telling = Telling::serial(Rendering::Record(RecordForm::Json), limit);
-            explain(rt, alloc, input, telling, output)
-        }
-        ExplainAsSarif(limit) => {
-            let telling = Telling::serial(Rendering::Record(RecordForm::Sarif), limit);
+            let telling = Telling::json(limit);
             explain(rt, alloc, input, telling, output)
         }
         Replay(trace) => replay_trace(rt, alloc, input, trace, output),
         Follow(program) => follow_trace(rt, alloc, input, program, output),
         Draw => draw_text(alloc, Form::Dot, input, output),
-        Picture => draw_text(alloc, Form::Svg, input, output),
     }
 }
 
@@ -323,18 +284,12 @@ impl Takes {
 /// What is wanted of a command.
 #[derive(Clone, Copy)]
 enum Wanted<'a> {
-    /// It ends with this status.
-    Status(u8),
     /// It ends with this status and writes this text.
     Text(u8, &'a str),
-    /// It ends with this status and writes a log that has this between what all logs have.
-    Log(u8, &'a str),
     /// It ends with this status and writes one of these texts.
     Among(u8, &'a [&'a str]),
     /// It writes nothing, and answers a fault with this status and text.
     Fault(u8, &'a str),
-    /// It wants a file that is not there: that can't be read, and nothing is written.
-    Lacking,
     /// Its reader fails behind so many reads, which is told, and nothing is written.
     Unread(u32),
     /// Its reader is interrupted at once, which is told as a failure, and nothing is written.
@@ -346,7 +301,7 @@ enum Wanted<'a> {
     Filled(Takes, u32, &'a str),
 }
 
-use Wanted::{Among, Fault, Filled, Interrupted, Lacking, Log, Status, Text, TooLong, Unread};
+use Wanted::{Among, Fault, Filled, Interrupted, Text, TooLong, Unread};
 
 impl Wanted<'_> {
     /// The writer for which this is wanted.
@@ -428,14 +383,9 @@ fn has_filled(outcome: &Outcome, left: u32, calls: u32, text: &str) -> bool {
 fn is_met(alloc: Global, outcome: &Outcome, wanted: Wanted<'_>) -> bool {
     let written = outcome.output.held.as_slice();
     match wanted {
-        Status(status) => is_ended(outcome, status),
         Text(status, text) => is_ended(outcome, status) && written == text.as_bytes(),
-        Log(status, text) => is_ended(outcome, status) && logs::is_log(written, text),
         Among(status, texts) => is_ended(outcome, status) && is_one_of(written, texts),
         Fault(status, text) => has_fault(alloc, outcome, status, text),
-        Lacking => {
-            is_unread(outcome) && !outcome.write_failed && has_fault(alloc, outcome, 2, "read")
-        }
         Unread(_) => is_unread(outcome),
         Interrupted => is_unread(outcome) && outcome.reads == 1,
         TooLong(least, most) => is_too_long(outcome, least, most),
@@ -483,26 +433,4 @@ fn push_number(
     behind: &str,
 ) -> Result<(), AllocError> {
     write!(text, "{before}{number}{behind}")
-}
-
-/// Appends two numbers between three texts.
-fn push_numbers(
-    text: &mut String,
-    before: &str,
-    first: u32,
-    between: &str,
-    second: u32,
-    behind: &str,
-) -> Result<(), AllocError> {
-    write!(text, "{before}{first}{between}{second}{behind}")
-}
-
-/// A command, the text that it reads, and what is wanted of it.
-type Case<'a> = (Command<'a>, &'a str, Wanted<'a>);
-
-/// Each command over the text beside it does what is wanted.
-fn check_all<R: Abort + Threads + Wait + Sync>(rt: &R, alloc: Global, cases: &[Case<'_>]) {
-    for (command, text, wanted) in cases {
-        check(rt, alloc, *command, text.as_bytes(), *wanted);
-    }
 }

@@ -1,6 +1,6 @@
 //! Tests of hostile use, a module for each way, and the gates that they put round a gate: growths that are refused, one after another,
 //! gates that stop, want memory or answer another request, and what a command says of these, histories and receipts that are not those of
-//! a run, texts that break off, and limits, those of pictures too.
+//! a run, texts that break off, and limits.
 //!
 //! They make public calls alone, and stand apart from the tests of the layers so that both are proved beside one another.
 #![tactic(auto)]
@@ -19,8 +19,6 @@ mod histories;
 mod limits;
 #[cfg(test)]
 mod locked_growths;
-#[cfg(test)]
-mod pictures;
 #[cfg(test)]
 mod pranks;
 #[cfg(test)]

@@ -5,10 +5,6 @@ mod accesses;
 #[cfg(test)]
 mod cores;
 #[cfg(test)]
-mod dag;
-#[cfg(test)]
-mod draws;
-#[cfg(test)]
 mod gate;
 #[cfg(test)]
 mod reads;

@@ -1,7 +1,5 @@
-//! Tests of runs of programs: their steps, elisions, replays and reports.
+//! Tests of runs of programs: their steps, replays and reports.
 
-#[cfg(test)]
-mod elisions;
 #[cfg(test)]
 mod frames;
 #[cfg(test)]

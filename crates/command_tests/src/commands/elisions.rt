@@ -1,78 +1,13 @@
-//! Elisions, from programs that are read to lines that are written.
+//! An elision of many cells, to writers that take it or not.
 
 use super::Command::Elide;
-use super::Wanted::{Fault, Filled, Text};
-use super::worked::{ENDLESS, FIB, LASTS, NO_TURNS, PAIR, SERIES, TURNS};
-use super::{Case, MOST, Takes, check, check_all, push_number};
+use super::Wanted::{Filled, Text};
+use super::{MOST, Takes, check, push_number};
 use std::alloc::{AllocError, Global};
 use std::process::Abort;
 use std::sync::Wait;
 use std::test::Fail;
 use std::thread::Threads;
-
-/// Programs and their elisions, or why there is none.
-const ELIDED: &[Case<'static>] = &[
-    (Elide(MOST), FIB, Text(0, "x 55\nrequests 713\n")),
-    (Elide(713), FIB, Text(0, "x 55\nrequests 713\n")),
-    (Elide(MOST), PAIR, Text(0, "x 7\ny 0\nrequests 7\n")),
-    (Elide(MOST), SERIES, Text(0, "x 7\ny 7\nrequests 9\n")),
-    (Elide(MOST), LASTS, Text(0, "x 3\nrequests 11\n")),
-    (
-        Elide(MOST),
-        TURNS,
-        Text(0, "a[0] 0\na[1] 1\na[2] 2\na[3] 3\nrequests 19\n"),
-    ),
-    (
-        Elide(MOST),
-        NO_TURNS,
-        Text(0, "a[0] 0\na[1] 0\na[2] 0\na[3] 0\nrequests 3\n"),
-    ),
-    (
-        Elide(MOST),
-        "cilk 1\nmem x\nmem a 2\nmem y\nfunc main z\nwrite a[1] 5\nwrite y 6\nend\n",
-        Text(0, "x 0\na[0] 0\na[1] 5\ny 6\nrequests 4\n"),
-    ),
-    (
-        Elide(2),
-        "cilk 1\nfunc main z\nend\n",
-        Text(0, "requests 2\n"),
-    ),
-    (
-        Elide(MOST),
-        "cilk 1\nmem abcdefghijklmnopqrstuvwxyz_12345 2\nfunc main z\nwrite abcdefghijklmnopqrstuvwxyz_12345[1] 18446744073709551615\nend\n",
-        Text(
-            0,
-            "abcdefghijklmnopqrstuvwxyz_12345[0] 0\nabcdefghijklmnopqrstuvwxyz_12345[1] 18446744073709551615\nrequests 3\n",
-        ),
-    ),
-    (Elide(0), FIB, Fault(4, "limit")),
-    (Elide(1), FIB, Fault(4, "limit")),
-    (Elide(100), FIB, Fault(4, "limit")),
-    (Elide(712), FIB, Fault(4, "limit")),
-    (Elide(5), ENDLESS, Fault(4, "limit")),
-    (Elide(MOST), ENDLESS, Fault(4, "limit")),
-    (Elide(MOST), "", Fault(2, "program line 1: BadHeader")),
-    (
-        Elide(MOST),
-        "cilk 1\nmem a 0\n",
-        Fault(2, "program line 2: BadNumber"),
-    ),
-    (
-        Elide(MOST),
-        "cilk 1\nfunc main z\nsync\n",
-        Fault(2, "program line 4: BadNesting"),
-    ),
-    (
-        Elide(MOST),
-        "cilk 1\nfunc main z\nspawn g 1\nend\n",
-        Fault(2, "program line 3: UnknownName"),
-    ),
-];
-
-#[test]
-fn elisions_and_programs_without_one(rt: HostRuntime) {
-    check_all(&rt, rt.alloc(), ELIDED);
-}
 
 /// A program of 20,001 cells.
 const WIDE: &str = "cilk 1\nmem a 20000\nmem x\nfunc main z\nwrite a[19999] 5\nwrite x 6\nend\n";

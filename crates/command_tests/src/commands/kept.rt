@@ -15,7 +15,7 @@ use std::process::Abort;
 use std::sync::Wait;
 use std::test::Fail;
 use std::thread::Threads;
-use tool_commands::{Extent, Manner, Rendering, Traces, Watched};
+use tool_commands::Watched;
 
 /// A head, lines that are repeated, and a tail.
 macro_rules! long {
@@ -247,55 +247,4 @@ fn a_long_trace_is_told_as_json(rt: HostRuntime) -> Result<(), Fail> {
 #[test]
 fn a_failure_behind_the_first_piece(rt: HostRuntime) -> Result<(), Fail> {
     check_broken(&rt, rt.alloc(), Explain(2, MOST), PLAIN, 150_000)
-}
-
-const TOGETHER_TOLD: &str = "race: write-read on the cell, 40000 times
-  --> a.c:9
-   = this write
-   = spawned at line 5
-  --> line 6
-   = this read, may run before it or after it
-  --> line 5
-   = here they part: what is spawned comes to a.c:9, while the spawner goes on to line 6
-   = help: a `sync` in the spawner before line 6 would order them
-
-40000 refusals at 1 pair of places, among 60005 requests in 3 traces
-recorded: first
-recorded: last
-";
-
-/// Adds this text to the traces, which tell nothing of it.
-fn add(rt: &impl Abort, alloc: Global, traces: &mut Traces, long: Long) -> Result<(), Fail> {
-    let text = long.text(alloc)?;
-    let manner = Manner {
-        is_painted: false,
-        rendering: Rendering::Text,
-        extent: Extent::First,
-        file: "p.cilk",
-    };
-    let mut reader = Watched::new(text.as_bytes());
-    let told = traces.read(alloc, &manner, &mut reader)?;
-    assert!(rt; told.is_none());
-    Ok(())
-}
-
-/// These texts together.
-fn add_texts(rt: &impl Abort, alloc: Global, texts: &[Long]) -> Result<Traces, Fail> {
-    let mut traces = Traces::new(alloc);
-    for long in texts {
-        add(rt, alloc, &mut traces, *long)?;
-    }
-    Ok(traces)
-}
-
-/// Traces of which the first and the last are one.
-const TOGETHER: &[Long] = &[RACED, RECORDED, RACED];
-
-#[test]
-fn long_traces_are_explained_together(rt: HostRuntime) -> Result<(), Fail> {
-    let traces = add_texts(&rt, rt.alloc(), TOGETHER)?;
-    let told = traces.to_message(rt.alloc(), Extent::First, Rendering::Text)?;
-    assert_eq!(rt; told.as_slice(), TOGETHER_TOLD.as_bytes());
-    assert_eq!(rt; traces.status(), 1);
-    Ok(())
 }

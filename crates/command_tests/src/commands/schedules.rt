@@ -2,8 +2,7 @@
 
 use super::Command::Run;
 use super::Wanted::{Among, Text};
-use super::worked::PAIR;
-use super::{Case, MOST, Outcome, Wanted, check_all, meets, outcome_of};
+use super::{MOST, Outcome, Wanted, check, meets, outcome_of};
 use std::alloc::Global;
 use std::process::Abort;
 use std::sync::Wait;
@@ -11,6 +10,10 @@ use std::sync::atomic::{AtomicBool, AtomicU64, Ordering};
 use std::thread;
 use std::thread::Threads;
 use tool_commands::{Door, Watched, run_text};
+
+/// A function that spawns another, which writes a cell that it reads.
+const PAIR: &str =
+    "cilk 1\nmem x\nmem y\nfunc main z\nspawn f 7\nread r x\nend\nfunc f v\nwrite x v\nend\n";
 
 /// What is told of PAIR where the child's write comes first, and the read, which is refused, before the child's sync.
 const WRITE_READ: &str =
@@ -41,19 +44,17 @@ const REPORTS: &[&str] = &[
     READ_SYNC_WRITE,
 ];
 
-/// Runs of PAIR by any number of workers.
-const SCHEDULED: &[Case<'static>] = &[
-    (Run(1, MOST), PAIR, Among(1, REPORTS)),
-    (Run(2, MOST), PAIR, Among(1, REPORTS)),
-    (Run(8, MOST), PAIR, Among(1, REPORTS)),
-    (Run(64, MOST), PAIR, Among(1, REPORTS)),
-    (Run(1, MOST), PAIR, Text(1, READ_SYNC_WRITE)),
-];
+/// How many workers run PAIR.
+const WORKERS: &[usize] = &[1, 2, 8, 64];
 
-/// Each schedule tells one refusal, and one worker goes on with the spawner.
+/// Each schedule tells one refusal.
 #[test]
 fn runs_that_no_door_decides(rt: HostRuntime) {
-    check_all(&rt, rt.alloc(), SCHEDULED);
+    let wanted = Among(1, REPORTS);
+    for workers in WORKERS {
+        let command = Run(*workers, MOST);
+        check(&rt, rt.alloc(), command, PAIR.as_bytes(), wanted);
+    }
 }
 
 /// What comes of a run of PAIR by two workers through a door.

@@ -1,12 +1,10 @@
-//! Worked accesses of a shadow history, its memory, and random runs against a scan of all accesses.
+//! Worked accesses of a shadow history, and its memory.
 
 ghost use Rattle.std.specs.Prelude.{◌≡◌, ◌≤◌, IfOk, length};
 ghost use Rattle.shadow_history.specs.Shadow.{StandsOn};
 
 use crate::checks::equal;
-use crate::gates::dag::Dag;
-use crate::gates::draws::draw;
-use access_table::{Kind, Rule, is_memory, rule};
+use access_table::{Kind, is_memory};
 use linked_list_allocator::LocalHeap;
 use shadow_history::{Shadow, Witness, laws};
 use sp_labels::Strands;
@@ -182,6 +180,17 @@ const RUNS: &[&[Found]] = &[
         (1, Return, None),
         (3, Access(Kind::Write, 0), None),
     ],
+    // What comes behind a call comes behind what the called function spawned.
+    &[
+        (0, Call, None),
+        (0, Spawn, None),
+        (1, Access(Kind::Write, 0), None),
+        (2, Access(Kind::Read, 0), witness!(3, 1, Kind::Write)),
+        (2, Sync, None),
+        (1, Return, None),
+        (3, Return, None),
+        (3, Access(Kind::Read, 0), None),
+    ],
     // The first kind and its earliest entry count.
     &[
         (0, Spawn, None),
@@ -278,241 +287,4 @@ fn many_locations_take_one_allocation_or_are_refused(rt: HostRuntime) {
     let bytes = count_bytes(rt.alloc(), 64_000_000, 1_000_000).unwrap_or(0);
     assert!(rt; are_of_many(rt.alloc(), bytes));
     assert!(rt; takes_only(rt.alloc(), 1_000_000, bytes));
-}
-
-/// The dag of a run, and its granted accesses, each with its location, at the number of its entry.
-#[derive(Drop)]
-struct Reference {
-    dag: Dag,
-    granted: [Option<(u32, Witness)>; 80],
-}
-
-/// No access for any entry.
-fn no_accesses() -> [Option<(u32, Witness)>; 80] {
-    [None; 80]
-}
-
-fn new_reference() -> Reference {
-    Reference {
-        dag: Dag::new(),
-        granted: no_accesses(),
-    }
-}
-
-/// Whether there is no other access yet, or its strand is before this one in one of the orders.
-fn is_later(dag: &Dag, english: bool, other: Option<Witness>, strand: u32) -> bool {
-    match other {
-        Some(other) => dag.is_before(english, other.strand, strand),
-        None => true,
-    }
-}
-
-/// The first of the last accesses of one kind in one of the orders.
-fn last(reference: &Reference, location: u32, kind: Kind, english: bool) -> Option<Witness> {
-    let mut last: Option<Witness> = None;
-    for entry in &reference.granted {
-        if let Some((place, access)) = entry {
-            if *place == location
-                && access.kind == kind
-                && is_later(&reference.dag, english, last, access.strand)
-            {
-                last = Some(*access);
-            }
-        }
-    }
-    last
-}
-
-/// The last access of one kind in one of the orders, the English one first, that is parallel to the strand.
-fn scan_kind(reference: &Reference, location: u32, kind: Kind, strand: u32) -> Option<Witness> {
-    for english in [true, false] {
-        if let Some(found) = last(reference, location, kind, english) {
-            if reference.dag.parallel(found.strand, strand) {
-                return Some(found);
-            }
-        }
-    }
-    None
-}
-
-/// The witness, by a scan of all granted accesses and paths along the dag: the slow way.
-fn scan(reference: &Reference, location: u32, new: Kind, strand: u32) -> Option<Witness> {
-    for earlier in [Kind::Write, Kind::Bump, Kind::Read] {
-        if rule(earlier, new) == Rule::Race {
-            let found = scan_kind(reference, location, earlier, strand);
-            if found.is_some() {
-                return found;
-            }
-        }
-    }
-    None
-}
-
-/// Whether any granted access races.
-fn races(reference: &Reference, location: u32, new: Kind, strand: u32) -> bool {
-    for entry in &reference.granted {
-        if let Some((place, access)) = entry {
-            if *place == location
-                && rule(access.kind, new) == Rule::Race
-                && reference.dag.parallel(access.strand, strand)
-            {
-                return true;
-            }
-        }
-    }
-    false
-}
-
-fn choose_act(choice: u32, location: u32) -> Act {
-    match choice {
-        0..=3 => Spawn,
-        4 => Sync,
-        5 => Return,
-        6 => Call,
-        7 => Access(Kind::Write, location),
-        8..=9 => Access(Kind::Bump, location),
-        _ => Access(Kind::Read, location),
-    }
-}
-
-/// The greatest number of a running strand that is not above another, or 0.
-fn running_below(dag: &Dag, most: u32) -> u32 {
-    for strand in (0..most).rev() {
-        if dag.runs(strand) {
-            return strand;
-        }
-    }
-    0
-}
-
-/// Does an act of a running strand in the reference, and says what it finds: the witness, and whether any access races.
-fn expect(reference: &mut Reference, strand: u32, asked: Act) -> (Option<Witness>, bool) {
-    match asked {
-        Spawn => reference.dag.spawn(strand),
-        Sync => reference.dag.sync(strand),
-        Call => reference.dag.call(strand),
-        Return => reference.dag.ret(strand),
-        Access(kind, location) => {
-            reference.dag.close();
-            let found = scan(reference, location, kind, strand);
-            return (found, races(reference, location, kind, strand));
-        }
-    }
-    (None, false)
-}
-
-/// Whether the same strands run in both.
-fn run_alike(strands: &Strands<Global>, dag: &Dag) -> bool {
-    for strand in 0..200u32 {
-        if strands.is_running(strand) != dag.runs(strand) {
-            return false;
-        }
-    }
-    true
-}
-
-/// An act that is drawn, with the number of its entry.
-#[derive(Clone, Copy)]
-struct Drawn {
-    entry: u32,
-    strand: u32,
-    asked: Act,
-}
-
-/// A drawn act of a strand that runs in the reference, or of strand 0, and the next state of the generator.
-fn draw_one(dag: &Dag, entry: u32, state: u64) -> (Drawn, u64) {
-    let (most, state_then) = draw(state, 60);
-    let (choice, state_last) = draw(state_then, 14);
-    let (location, state_next) = draw(state_last, 2);
-    let strand = running_below(dag, most);
-    let asked = choose_act(choice, location);
-    let drawn = Drawn {
-        entry,
-        strand,
-        asked,
-    };
-    (drawn, state_next)
-}
-
-/// Does the drawn act in the reference, where its strand runs there, and keeps it where it is an access that has no witness.
-fn take(reference: &mut Reference, drawn: Drawn) -> (Option<Witness>, bool) {
-    if !reference.dag.runs(drawn.strand) {
-        return (None, false);
-    }
-    let wanted = expect(reference, drawn.strand, drawn.asked);
-    if wanted.0.is_none() {
-        keep(reference, drawn);
-    }
-    wanted
-}
-
-/// Keeps the access, with its location, where the act is one.
-fn keep(reference: &mut Reference, drawn: Drawn) {
-    if let Access(kind, location) = drawn.asked {
-        let access = Witness {
-            entry: drawn.entry,
-            strand: drawn.strand,
-            kind,
-        };
-        reference.granted[(drawn.entry % 80) as usize] = Some((location, access));
-    }
-}
-
-/// Does an act in both, and says whether it races. None where what is found is not the reference's witness, or not one exactly where any
-/// access races, or not the same strands run in both.
-fn play_one(
-    strands: &mut Strands<Global>,
-    shadow: &mut Shadow<Global>,
-    reference: &mut Reference,
-    drawn: Drawn,
-) -> Option<bool>
-    requires stands { StandsOn shadow.old strands.old }
-    requires locations { 2 ≤ length shadow.old }
-    ensures stands { StandsOn shadow.new strands.new }
-    ensures locations { length shadow.new ≡ length shadow.old }
-{
-    let (witness, races) = take(reference, drawn);
-    let found = step(strands, shadow, drawn.entry, drawn.strand, drawn.asked);
-    let is_right = found == witness
-        && found.is_some() == races
-        && run_alike(strands, &reference.dag);
-    is_right.then_some(races)
-}
-
-/// How many of the 79 acts of this seed's run race.
-fn play_all(strands: &mut Strands<Global>, shadow: &mut Shadow<Global>, seed: u64) -> Option<u32>
-    requires stands { StandsOn shadow.old strands.old }
-    requires locations { 2 ≤ length shadow.old }
-{
-    let mut reference = new_reference();
-    let mut state = seed;
-    let mut raced = 0u32;
-    for entry in 1..80u32 {
-        let (drawn, state_next) = draw_one(&reference.dag, entry, state);
-        state = state_next;
-        match play_one(strands, shadow, &mut reference, drawn) {
-            Some(is_race) => raced = raced.saturating_add(u32::from(is_race)),
-            None => return None,
-        }
-    }
-    Some(raced)
-}
-
-/// The same of new strands.
-fn play(alloc: Global, seed: u64) -> Option<u32> {
-    match opening(alloc, alloc, 2) {
-        Ok((mut strands, mut shadow)) => play_all(&mut strands, &mut shadow, seed),
-        Err(_) => None,
-    }
-}
-
-#[test]
-fn random_runs_agree_with_the_scan(rt: HostRuntime) {
-    let mut raced = 0u32;
-    for seed in 0..400u64 {
-        let found = play(rt.alloc(), seed);
-        equal(&rt, &seed, &found.is_some(), &true);
-        raced = raced.saturating_add(found.unwrap_or(0));
-    }
-    assert!(rt; raced > 1_000);
 }

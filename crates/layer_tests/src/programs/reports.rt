@@ -151,17 +151,6 @@ fn reducers_and_arrays(rt: HostRuntime) {
     }
 }
 
-const CLEAN: &str =
-    "{\"clean\":true,\"entries\":713,\"memory\":{\"x\":55},\"refusals\":[],\"schedules\":\"clean for every schedule\"}";
-
-#[test]
-fn a_clean_run(rt: HostRuntime) {
-    let mut requests = [asked!(0, Act::Call, 5); 713];
-    requests[0] = asked!(0, Act::Write(0, 55), 4);
-    let text = "cilk 1\nmem x\nfunc main z\nend\n";
-    assert!(rt; tells(rt.alloc(), text, &requests, CLEAN));
-}
-
 /// The reply to a get that finds nothing, with this number.
 macro_rules! unset {
     ($number:literal) => {

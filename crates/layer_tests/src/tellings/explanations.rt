@@ -1,8 +1,8 @@
-//! Whole explanations.
+//! Whole explanations: tests/explain-programs.t has others.
 
 use super::asked::{Deed, answers};
 use super::texts::is_text;
-use Act::{Call, Get, Put, Return, Spawn, Sync, Write};
+use Act::{Call, Get, Sync, Write};
 use program_text::Program;
 use race_explanations::{Extent, explanation, most_pairs};
 use race_gate::Gate;
@@ -66,50 +66,6 @@ fn explains(rt: &impl Abort, alloc: Global, text: &str, deeds: &[Deed], wanted: 
 type Case<'a> = (&'a str, &'a [Deed], &'a str);
 
 const CASES: &[Case<'static>] = &[
-    // A function is spawned twice, and races with itself: both lines are one, and the spawns tell the two apart.
-    (
-        "cilk 1\nmem x\nfunc main z\n  spawn f 1\n  spawn f 2\n  sync\nend\nfunc f v\n  write x v\nend\n",
-        &[
-            (0, 4, Spawn),
-            (1, 9, Write(0, 1)),
-            (1, 10, Return),
-            (2, 5, Spawn),
-            (4, 9, Write(0, 2)),
-        ],
-        "race: write-write on x, 1 time\n  \
-         --> p.cilk:9\n   \
-         |\n \
-         9 |   write x v\n   \
-         |   --------- this write, in `f`\n   \
-         = spawned at line 4, in `main`: spawn f 1\n   \
-         |\n \
-         9 |   write x v\n   \
-         |   ^^^^^^^^^ this write, in `f`, may run before it or after it\n   \
-         = spawned at line 5, in `main`: spawn f 2\n   \
-         |\n \
-         4 |   spawn f 1\n   \
-         |   --------- here they part: what is spawned comes to line 9, while `main` goes on to line 5\n   \
-         = help: a `sync` in `main` before line 5 would order them\n\n\
-         1 refusal at 1 pair of lines, among 5 requests\n",
-    ),
-    // A get while a spawn is outstanding that was not at the put.
-    (
-        "cilk 1\nreducer s sum\nfunc main z\nput s 1\nspawn f 1\nget a s\nsync\nend\nfunc f v\nend\n",
-        &[(0, 4, Put(0, 1)), (0, 5, Spawn), (2, 6, Get(0))],
-        "view-read race: reads with other peers of s, 1 time\n  \
-         --> p.cilk:6\n   \
-         |\n \
-         4 | put s 1\n   \
-         | ------- this put, in `main`\n   \
-         |\n \
-         6 | get a s\n   \
-         | ^^^^^^^ this get, in `main`, has other peers\n   \
-         |\n \
-         5 | spawn f 1\n   \
-         | --------- this spawn is outstanding at line 6, and not at line 4\n   \
-         = help: move what stands on line 6 behind the `sync` of `main`, where this spawn has ended\n\n\
-         1 refusal at 1 pair of lines, among 3 requests\n",
-    ),
     // A get with nothing before it, in a function that was called.
     (
         "cilk 1\nreducer s last\nfunc main z\ncall f 1\nend\nfunc f v\nget a s\nend\n",

@@ -1,17 +1,14 @@
-//! Worked histories: which lines raced, and how the strands came about.
+//! Worked histories: which entries raced, and which spawn is outstanding. tests/explain-pairs.t has others.
 
 ghost use Rattle.std.specs.Prelude.{List, IfSome};
 ghost use Rattle.model_histories.specs.declared.answer.Entry.{Entry};
 ghost use Rattle.race_pairs.specs.Digests.{IsDigest};
 
-use super::asked::{Deed, answers, ask_gate};
-use super::openings::gate_of;
-use Act::{Call, Get, Put, Read, Return, Spawn, Write};
+use super::asked::{Deed, ask_gate};
+use Act::{Get, Put, Read, Spawn, Write};
 use model_accesses::Kind;
 use race_gate::Gate;
-use race_pairs::{
-    Digest, Encounter, Group, Lines, Link, PAIRS, Pair, Race, Reason, Way, group_races, line_in,
-};
+use race_pairs::{Digest, Encounter, Lines, Link, PAIRS, Pair, Race, Reason, line_in};
 use std::alloc::Global;
 use text_words::{Act, Monoid};
 
@@ -153,26 +150,6 @@ fn is_found(alloc: Global, deeds: &[Deed], pairs: &[Pair], told: &Told<'_>) -> b
     }
 }
 
-/// A call by its number.
-macro_rules! called {
-    ($number:literal) => {
-        Link {
-            entry: $number,
-            way: Way::Called,
-        }
-    };
-}
-
-/// A spawn by its number.
-macro_rules! spawned {
-    ($number:literal) => {
-        Link {
-            entry: $number,
-            way: Way::Spawned,
-        }
-    };
-}
-
 const READ_BEHIND_WRITE: Reason = Reason::Race {
     earlier: Kind::Write,
     refused: Kind::Read,
@@ -196,23 +173,6 @@ const CASES: &[Case<'static>] = &[
             pair!(READ_BEHIND_WRITE, (8, 5), Some(1), (7, 2), 1),
         ],
         Told::Nothing,
-    ),
-    // The same two lines race at two spawns: these are two pairs.
-    (
-        &[
-            (0, 1, Spawn),
-            (1, 5, Write(0, 1)),
-            (2, 3, Spawn),
-            (4, 5, Write(1, 1)),
-            (5, 7, Write(0, 2)),
-            (5, 7, Write(1, 2)),
-            (5, 7, Write(0, 3)),
-        ],
-        &[
-            pair!(WRITES, (7, 5), Some(1), (5, 2), 2),
-            pair!(WRITES, (7, 5), Some(3), (6, 4), 1),
-        ],
-        Told::Places(&[1]),
     ),
     // One pair on two cells, of which the second raced first and twice.
     (
@@ -247,38 +207,6 @@ const CASES: &[Case<'static>] = &[
             open: Some((3, 0, 1, 2, 0)),
         }),
     ),
-    // In a called function a child calls another, and what goes on a third.
-    (
-        &[
-            (0, 1, Call),
-            (0, 2, Spawn),
-            (1, 5, Call),
-            (1, 9, Write(0, 1)),
-            (1, 10, Return),
-            (2, 3, Call),
-            (2, 12, Write(0, 2)),
-        ],
-        &[pair!(WRITES, (12, 9), Some(2), (7, 4), 1)],
-        Told::Met(Known {
-            chain: &[called!(6), called!(1)],
-            witness_chain: &[called!(3), spawned!(2), called!(1)],
-            parted: Some((2, 1, 2)),
-            onward: Some(6),
-            open: None,
-        }),
-    ),
-    // The witness is on the side that goes on, and nothing that the spawn's function called encloses it.
-    (
-        &[(0, 1, Spawn), (2, 4, Write(0, 1)), (1, 5, Write(0, 2))],
-        &[pair!(WRITES, (5, 4), Some(1), (3, 2), 1)],
-        Told::Met(Known {
-            chain: &[spawned!(1)],
-            witness_chain: &[],
-            parted: Some((1, 1, 2)),
-            onward: Some(2),
-            open: None,
-        }),
-    ),
 ];
 
 #[test]
@@ -286,61 +214,6 @@ fn lines_that_raced(rt: HostRuntime) {
     for (deeds, pairs, told) in CASES {
         assert!(rt; is_found(rt.alloc(), deeds, pairs, told));
     }
-}
-
-/// The groups of a digest's races: the line of the spawn, and the indices of the races.
-type Grouped<'a> = (Option<u32>, &'a [usize]);
-
-/// Whether these are the groups.
-fn are_groups(groups: &[Group], wanted: &[Grouped<'_>]) -> bool {
-    if groups.len() != wanted.len() {
-        return false;
-    }
-    for (at, group) in groups.iter().enumerate() {
-        let (spawn, places) = wanted[at];
-        if group.spawn != spawn || group.places.as_slice() != places {
-            return false;
-        }
-    }
-    true
-}
-
-/// Whether the races of what a gate was asked for have these groups.
-fn is_grouped(alloc: Global, deeds: &[Deed], wanted: &[Grouped<'_>]) -> bool {
-    let Some(gate) = ask_gate(alloc, 2, &[Monoid::Sum], deeds) else {
-        return false;
-    };
-    let Some(digest) = digest_of(alloc, &gate) else {
-        return false;
-    };
-    match group_races(alloc, digest.races()) {
-        Ok(groups) => are_groups(&groups, wanted),
-        Err(_) => false,
-    }
-}
-
-#[test]
-fn groups_of_races(rt: HostRuntime) {
-    // The races of two spawns, those of the outer one first and last, between them two of no spawn.
-    const DEEDS: &[Deed] = &[
-        (0, 1, Spawn),
-        (1, 5, Write(0, 1)),
-        (2, 2, Get(0)),
-        (2, 3, Spawn),
-        (4, 6, Write(1, 1)),
-        (5, 7, Write(0, 2)),
-        (5, 8, Write(1, 2)),
-        (5, 9, Get(0)),
-        (5, 9, Write(0, 3)),
-    ];
-    const WANTED: &[Grouped<'static>] = &[
-        (None, &[0]),
-        (Some(1), &[1, 4]),
-        (Some(3), &[2]),
-        (None, &[3]),
-    ];
-    assert!(rt; is_grouped(rt.alloc(), DEEDS, WANTED));
-    assert!(rt; is_grouped(rt.alloc(), &[(0, 1, Spawn), (1, 5, Write(0, 1))], &[]));
 }
 
 /// The lines of a history, with those before the first and behind the last.
@@ -371,128 +244,4 @@ fn are_known(alloc: Global, deeds: &[Deed]) -> bool {
 fn numbers(rt: HostRuntime) {
     const DEEDS: &[Deed] = &[(0, 3, Spawn), (2, 8, Write(0, 1))];
     assert!(rt; are_known(rt.alloc(), DEEDS));
-}
-
-/// A child that writes on line 1, and what follows it that writes on each of 25 lines.
-const MANY: &[Deed] = &[
-    (0, 1, Spawn),
-    (1, 1, Write(0, 1)),
-    (2, 11, Write(0, 1)),
-    (2, 12, Write(0, 1)),
-    (2, 13, Write(0, 1)),
-    (2, 14, Write(0, 1)),
-    (2, 15, Write(0, 1)),
-    (2, 16, Write(0, 1)),
-    (2, 17, Write(0, 1)),
-    (2, 18, Write(0, 1)),
-    (2, 19, Write(0, 1)),
-    (2, 20, Write(0, 1)),
-    (2, 21, Write(0, 1)),
-    (2, 22, Write(0, 1)),
-    (2, 23, Write(0, 1)),
-    (2, 24, Write(0, 1)),
-    (2, 25, Write(0, 1)),
-    (2, 26, Write(0, 1)),
-    (2, 27, Write(0, 1)),
-    (2, 28, Write(0, 1)),
-    (2, 29, Write(0, 1)),
-    (2, 30, Write(0, 1)),
-    (2, 31, Write(0, 1)),
-    (2, 32, Write(0, 1)),
-    (2, 33, Write(0, 1)),
-    (2, 34, Write(0, 1)),
-    (2, 35, Write(0, 1)),
-    (2, 11, Write(1, 1)),
-    (2, 35, Write(0, 1)),
-    (2, 12, Write(0, 1)),
-];
-
-/// The lines of the first twenty of these.
-const FIRST: &[u32] = &[
-    11, 12, 13, 14, 15, 16, 17, 18, 19, 20, 21, 22, 23, 24, 25, 26, 27, 28, 29, 30,
-];
-
-/// Whether of 25 pairs the first twenty are kept, of which the second came twice, and 27 refusals were counted.
-fn has_first(digest: &Digest) -> bool {
-    for (place, race) in digest.races().iter().enumerate() {
-        let Some(line) = FIRST.get(place) else {
-            return false;
-        };
-        let wanted = Pair {
-            lines: Lines {
-                reason: WRITES,
-                line: *line,
-                witness_line: 1,
-            },
-            spawn: Some(1),
-            first: place + 3,
-            witness: 2,
-            times: if place == 1 { 2 } else { 1 },
-        };
-        if race.pair != wanted || race.places.as_slice() != [0].as_slice() {
-            return false;
-        }
-    }
-    digest.races().len() == 20 && digest.pair_count() == 25 && digest.refusals == 27
-}
-
-#[test]
-fn more_than_twenty_pairs(rt: HostRuntime) {
-    let alloc = rt.alloc();
-    let gate = ask_gate(alloc, 2, &[Monoid::Sum], MANY);
-    let digest = match &gate {
-        Some(gate) => digest_of(alloc, gate),
-        None => None,
-    };
-    assert!(rt; matches!(&digest, Some(digest) if has_first(digest)));
-}
-
-/// How many spawns there are one behind another.
-const DEPTH: u32 = 100_000;
-
-/// The deeds of a chain of spawns: the first child writes a cell, and the strand behind the last spawn writes it so often.
-fn judge_chain(gate: &mut Gate<Global>, often: u32) -> bool {
-    let mut strand = 0;
-    for at in 0..DEPTH {
-        if !answers(gate, &[(strand, at + 1, Spawn)]) {
-            return false;
-        }
-        if at == 0 && !answers(gate, &[(1, 5, Write(0, 1))]) {
-            return false;
-        }
-        strand = if at == 0 { 2 } else { 2 * at + 3 };
-    }
-    for _ in 0..often {
-        if !answers(gate, &[(strand, 7, Write(0, 2))]) {
-            return false;
-        }
-    }
-    true
-}
-
-/// Whether the first child and the last strand of a chain are told as one pair.
-fn tells_chain(alloc: Global) -> bool {
-    let Ok(mut gate) = gate_of(alloc, 1, &[]) else {
-        return false;
-    };
-    if !judge_chain(&mut gate, DEPTH) {
-        return false;
-    }
-    let Some(digest) = digest_of(alloc, &gate) else {
-        return false;
-    };
-    match digest.races().first() {
-        Some(race) => {
-            race.pair.spawn == Some(1)
-                && race.pair.times == DEPTH as usize
-                && digest.pair_count() == 1
-        }
-        None => false,
-    }
-}
-
-// Each of the refusals lies as deep as the chain, so climbs from spawner to spawner would take hours.
-#[test]
-fn long_chain(rt: HostRuntime) {
-    assert!(rt; tells_chain(rt.alloc()));
 }

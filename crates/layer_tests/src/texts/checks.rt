@@ -1,13 +1,11 @@
-//! The checks of most tests of texts. Each is proved once, where a comparison in each of them would be proved in each.
+//! The checks that tests of texts share. Each is proved once, where a comparison in each of them would be proved in each.
 
 ghost use Rattle.std.specs.Prelude.{◌≡◌, ◌<◌, IsTrue};
 ghost use Rattle.text_words.specs.Declarations.{cells_of};
 ghost use Rattle.trace_text.specs.Shapes.{is_numbered};
 
-use crate::checks::equal;
 use program_text::Program;
 use std::alloc::Global;
-use std::process::Abort;
 use text_words::{Cause, Mem, Monoid, Shape, TextFault};
 use trace_text::{Trace, cell_name};
 
@@ -39,16 +37,6 @@ pub fn read(alloc: Global, form: Form, text: &[u8]) -> Option<Given<()>> {
     match fault {
         Some(fault) => reading_of(Err(fault)),
         None => Some(Ok(())),
-    }
-}
-
-/// A text, and what is found when it is read.
-pub type Text = (&'static [u8], Given<()>);
-
-/// Each text has the fault beside it, or none.
-pub fn check_texts(rt: &impl Abort, alloc: Global, form: Form, cases: &[Text]) {
-    for (text, wanted) in cases {
-        equal(rt, text, &read(alloc, form, text), &Some(*wanted));
     }
 }
 
