@@ -209,11 +209,10 @@ fn follow_all<A: Allocator + Copy, B: Allocator, C: Allocator>(
             Err(Misfit::Memory) => return Err(ReplayFault::Memory),
         }
     }
-    if is_finished(entries) {
-        Ok(())
-    } else {
-        Err(ReplayFault::Unfinished)
+    if !is_finished(entries) {
+        return Err(ReplayFault::Unfinished);
     }
+    Ok(())
 }
 
 /// From how many spawns on a replay asks for their room at once.

@@ -25,6 +25,12 @@ pub enum Misfit {
     Memory,
 }
 
+fn is_same_act(one: Act, other: Act) -> bool
+    ensures { IsTrue result ↔ one ≡ other }
+{
+    one == other
+}
+
 fn is_spawn(act: Act) -> bool
     ensures { IsTrue result ↔ act ≡ Act.Spawn }
 {
@@ -62,7 +68,7 @@ pub fn advance_frame<A: Allocator, B: Allocator>(
         return Err(Misfit::Strange);
     }
     let want = frame.next(program);
-    if want.act != entry.request.act || want.line != entry.request.line {
+    if !is_same_act(want.act, entry.request.act) || want.line != entry.request.line {
         return Err(Misfit::Strange);
     }
     let target = spawn_target(frame, program, want.act);

@@ -68,27 +68,30 @@ returns-in-Err-Memory-clause-unfinished g c = λ e. absurd (memory-unfinished e)
 pub returns-in-Err-Memory-clause-strange : goal.returns-in-Err-Memory-clause-strange
 returns-in-Err-Memory-clause-strange g c = λ number e. absurd (memory-strange number e)
 
-pub returns-then-is_finished-clause-finished : goal.returns-then-is_finished-clause-finished
-returns-then-is_finished-clause-finished g c =
+pub returns-clause-finished : goal.returns-clause-finished
+returns-clause-finished g c =
     let kept = c.loop-at.invariant in
     let end : c.loop-at.at ≡ length c.args.entries.now.items = omega (arith, c.loop-at-test.false, c.loop-at.auto.at-end, c.len-at-end.ensures) in (
       run_of_all c.args.program.now.functions (shape_in c.args.program.now) kept.0 kept.1.0 c.loop-at.table.places.items kept.1.2 c.args.entries.now.items c.loop-at.at kept.2 end,
-      c.is_finished.ensures.0 c.if-is_finished.true,
+      c.is_finished.ensures.0 c.if-not-is_finished.false,
     )
 
-pub returns-then-is_finished-clause-unfinished : goal.returns-then-is_finished-clause-unfinished
-returns-then-is_finished-clause-unfinished g c = λ e. absurd (ok-other tt Unfinished e)
+pub returns-clause-unfinished : goal.returns-clause-unfinished
+returns-clause-unfinished g c = λ e. absurd (ok-other tt Unfinished e)
 
-pub returns-then-is_finished-clause-strange : goal.returns-then-is_finished-clause-strange
-returns-then-is_finished-clause-strange g c = λ number e. absurd (ok-other tt (Strange number) e)
+pub returns-clause-strange : goal.returns-clause-strange
+returns-clause-strange g c = λ number e. absurd (ok-other tt (Strange number) e)
 
-pub returns-else-is_finished-clause-unfinished : goal.returns-else-is_finished-clause-unfinished
-returns-else-is_finished-clause-unfinished g c = λ e.
+pub returns-then-not-is_finished-clause-unfinished : goal.returns-then-not-is_finished-clause-unfinished
+returns-then-not-is_finished-clause-unfinished g c = λ e.
     let kept = c.loop-at.invariant in
     let end : c.loop-at.at ≡ length c.args.entries.now.items = omega (arith, c.loop-at-test.false, c.loop-at.auto.at-end, c.len-at-end.ensures) in (
       run_of_all c.args.program.now.functions (shape_in c.args.program.now) kept.0 kept.1.0 c.loop-at.table.places.items kept.1.2 c.args.entries.now.items c.loop-at.at kept.2 end,
-      (λ ends. true≢false (sym (c.is_finished.ensures.1 ends) ∙ c.if-is_finished.false)),
+      (λ ends. true≢false (sym (c.is_finished.ensures.1 ends) ∙ c.if-not-is_finished.true)),
     )
 
-pub returns-else-is_finished-clause-strange : goal.returns-else-is_finished-clause-strange
-returns-else-is_finished-clause-strange g c = λ number e. absurd (unfinished-strange number e)
+pub returns-then-not-is_finished-clause-strange : goal.returns-then-not-is_finished-clause-strange
+returns-then-not-is_finished-clause-strange g c = λ number e. absurd (unfinished-strange number e)
+
+pub returns-then-not-is_finished-clause-finished : goal.returns-then-not-is_finished-clause-finished
+returns-then-not-is_finished-clause-finished g c = tt
