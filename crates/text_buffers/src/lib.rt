@@ -1,10 +1,14 @@
-//! Texts that are written into a buffer: [`push_words`] and [`push_number`] add to one, and their contracts say which bytes they add, and
-//! that with room for these they go well. `specs/Rooms` says what room is.
+//! Texts that are written into a buffer. [`push_words`] and [`push_number`] add to one, and their contracts say which bytes they add, and
+//! that with room for these they go well: `specs/Rooms` says what room is. A [`TextBuilder`] takes a text of many parts: that there was no
+//! memory for one of them is asked for once, at the end, and `specs/Builders` says what its calls add.
 #![tactic(auto)]
+
+mod builder;
 
 ghost use Rattle.std.specs.Prelude.{◌≡◌, ◌++◌, ◌+◌, ◌≤◌, ℕ, OnOk, IsOk, decimal, length, vec_capacity};
 ghost use Rattle.text_buffers.specs.Rooms.{HasRoom, number_room};
 
+pub use builder::TextBuilder;
 use itoa::Buffer;
 use std::alloc::{AllocError, Allocator};
 
