@@ -1,1 +1,1 @@
-pub mod Pushed
+pub mod Indents

@@ -1,6 +1,7 @@
 //! Why a program's text means nothing, for a person.
 
-ghost use Rattle.std.specs.Prelude.{◌≡◌, ◌++◌, IfOk, OnOk};
+ghost use Rattle.std.specs.Prelude.{◌++◌, IfOk};
+ghost use Rattle.text_buffers.specs.Builders.{Adds};
 ghost use Rattle.text_words.specs.Text.{lines};
 ghost use Rattle.source_quotes.specs.Lines.{line_in};
 ghost use Rattle.source_quotes.specs.Parts.{IsWithin};
@@ -8,34 +9,34 @@ ghost use Rattle.source_quotes.specs.FaultTexts.{fault_quote, fault_text, TellsF
 
 use crate::diagnosis::diagnose;
 use crate::hint::hint;
-use crate::look::{Look, Paint, push_painted, push_place, push_quote, push_sign_below, push_three};
+use crate::look::{Look, Paint, push_painted, push_place, push_quote, push_sign_below};
 use crate::meant::Meant;
 use crate::mistake::{Mistake, title_words};
 use crate::part::{Span, span_of};
 use crate::scene::{Scene, words_of};
 use crate::source::Source;
 use std::alloc::{AllocError, Global};
-use text_buffers::push_words;
+use text_buffers::TextBuilder;
 use text_words::Cause;
 
 /// Adds the faulty line, with a sign below a part of it.
 fn push_fault_quote(
-    text: &mut Vec<u8>,
+    text: &mut TextBuilder,
     look: Look,
     source: &Source<'_>,
     number: u32,
     span: Span,
-) -> Result<(), AllocError>
+)
     requires { IsWithin span (line_in source.now number) }
-    ensures { OnOk result (text.new.items ≡ text.old.items ++ fault_quote look source.now number span) }
+    ensures { Adds text.old (fault_quote look source.now number span) text.new }
 {
-    push_quote(text, look, source, number)?;
-    push_sign_below(text, look, Paint::Red, source.line(number), span, b'^')
+    push_quote(text, look, source, number);
+    push_sign_below(text, look, Paint::Red, source.line(number), span, b'^');
 }
 
 /// Adds the mistake, the place, the faulty line with a sign below the part that is wrong, and what may help.
 fn push_fault(
-    text: &mut Vec<u8>,
+    text: &mut TextBuilder,
     look: Look,
     file: &str,
     source: &Source<'_>,
@@ -43,16 +44,18 @@ fn push_fault(
     mistake: Mistake,
     span: Span,
     help: &[u8],
-) -> Result<(), AllocError>
+)
     requires { IsWithin span (line_in source.now number) }
-    ensures { OnOk result (text.new.items ≡ text.old.items ++ (fault_text look file.now source.now number mistake span ++ help.now)) }
+    ensures { Adds text.old (fault_text look file.now source.now number mistake span ++ help.now) text.new }
 {
-    push_painted(text, look, Paint::Red, "error")?;
-    push_three(text, ": ", title_words(mistake), "\n")?;
-    push_place(text, look, file, number)?;
-    push_fault_quote(text, look, source, number, span)?;
-    push_words(text, "\n")?;
-    text.extend_from_slice(help)
+    push_painted(text, look, Paint::Red, "error");
+    text.push_words(": ");
+    text.push_words(title_words(mistake));
+    text.push_words("\n");
+    push_place(text, look, file, number);
+    push_fault_quote(text, look, source, number, span);
+    text.push_words("\n");
+    text.push_bytes(help);
 }
 
 /// What is told of the text of a program or a trace that has a fault at this line: what is wrong, the line with a sign below the part of it that
@@ -81,7 +84,7 @@ pub fn fault_message(
     let found = diagnose(&scene, why);
     let span = span_of(source.line(number), found.part);
     let help = hint(alloc, look, &scene, found)?;
-    let mut told = Vec::new(alloc);
+    let mut told = TextBuilder::new(alloc);
     push_fault(
         &mut told,
         look,
@@ -91,6 +94,6 @@ pub fn fault_message(
         found.mistake,
         span,
         help.as_slice(),
-    )?;
-    Ok(told)
+    );
+    told.end()
 }

@@ -1,6 +1,7 @@
 //! How quotes look, and the parts that they are made of.
 
-ghost use Rattle.std.specs.Prelude.{◌≡◌, ◌≤◌, ◌++◌, OnOk, length, decimal, replicate, take, drop};
+ghost use Rattle.std.specs.Prelude.{◌≡◌, ◌≤◌, ◌++◌, length, decimal, replicate, take, drop};
+ghost use Rattle.text_buffers.specs.Builders.{Adds};
 ghost use Rattle.source_quotes.specs.Lines.{line_in, blanks, end_from, statement_length};
 ghost use Rattle.source_quotes.specs.declared.look.Paint.TheVariants.{Blue};
 ghost use Rattle.source_quotes.specs.Quotes.{look_of, before_paint, behind_paint, painted};
@@ -10,8 +11,7 @@ ghost use Rattle.source_quotes.specs.Quotes.{gutter, quote, sign, marked, place,
 use crate::part::Span;
 use crate::source::Source;
 use itoa::Buffer;
-use std::alloc::AllocError;
-use text_buffers::{push_number, push_words};
+use text_buffers::TextBuilder;
 
 /// What words are painted in, on a terminal.
 #[derive(Clone, Copy)]
@@ -69,82 +69,61 @@ fn paint_end(look: Look) -> &'static str
     if look.is_painted { "\u{1b}[0m" } else { "" }
 }
 
-/// Adds words behind others.
-pub(crate) fn push_three(
-    text: &mut Vec<u8>,
-    first: &str,
-    second: &str,
-    third: &str,
-) -> Result<(), AllocError>
-    ensures { OnOk result (text.new.items ≡ text.old.items ++ first.now ++ second.now ++ third.now) }
-{
-    push_words(text, first)?;
-    push_words(text, second)?;
-    push_words(text, third)
-}
-
 /// Adds words in a paint.
-pub fn push_painted(
-    text: &mut Vec<u8>,
-    look: Look,
-    paint: Paint,
-    words: &str,
-) -> Result<(), AllocError>
-    ensures { OnOk result (text.new.items ≡ text.old.items ++ painted look paint words.now) }
+pub fn push_painted(text: &mut TextBuilder, look: Look, paint: Paint, words: &str)
+    ensures { Adds text.old (painted look paint words.now) text.new }
 {
-    push_three(text, paint_start(look, paint), words, paint_end(look))
+    text.push_words(paint_start(look, paint));
+    text.push_words(words);
+    text.push_words(paint_end(look));
 }
 
 /// Adds a byte so many times.
-fn push_repeated(text: &mut Vec<u8>, count: usize, byte: u8) -> Result<(), AllocError>
-    ensures { OnOk result (text.new.items ≡ text.old.items ++ replicate count byte) }
+fn push_repeated(text: &mut TextBuilder, count: usize, byte: u8)
+    ensures { Adds text.old (replicate count byte) text.new }
 {
     for _ in 0..count {
-        text.push(byte)?;
+        text.push_byte(byte);
     }
-    Ok(())
 }
 
 /// Adds this sign at the left of what is no line of the source.
-pub fn push_left_sign(text: &mut Vec<u8>, look: Look, sign: &str) -> Result<(), AllocError>
-    ensures { OnOk result (text.new.items ≡ text.old.items ++ replicate look.width 32 ++ painted look Blue sign.now) }
+pub fn push_left_sign(text: &mut TextBuilder, look: Look, sign: &str)
+    ensures { Adds text.old (replicate look.width 32 ++ painted look Blue sign.now) text.new }
 {
-    push_repeated(text, look.width, b' ')?;
-    push_painted(text, look, Paint::Blue, sign)
+    push_repeated(text, look.width, b' ');
+    push_painted(text, look, Paint::Blue, sign);
 }
 
 /// Adds the left of what is no line of the source.
-pub fn push_gutter(text: &mut Vec<u8>, look: Look) -> Result<(), AllocError>
-    ensures { OnOk result (text.new.items ≡ text.old.items ++ gutter look) }
+pub fn push_gutter(text: &mut TextBuilder, look: Look)
+    ensures { Adds text.old (gutter look) text.new }
 {
-    push_left_sign(text, look, " |")
+    push_left_sign(text, look, " |");
 }
 
 /// Adds what stands before a note beside the source.
-pub fn push_note_sign(text: &mut Vec<u8>, look: Look) -> Result<(), AllocError>
-    ensures { OnOk result (text.new.items ≡ text.old.items ++ noted look) }
+pub fn push_note_sign(text: &mut TextBuilder, look: Look)
+    ensures { Adds text.old (noted look) text.new }
 {
-    push_left_sign(text, look, " =")?;
-    push_words(text, " ")
+    push_left_sign(text, look, " =");
+    text.push_words(" ");
 }
 
 /// Adds the line of the source with this number.
-pub fn push_quote(
-    text: &mut Vec<u8>,
-    look: Look,
-    source: &Source<'_>,
-    number: u32,
-) -> Result<(), AllocError>
-    ensures { OnOk result (text.new.items ≡ text.old.items ++ quote look source.now number) }
+pub fn push_quote(text: &mut TextBuilder, look: Look, source: &Source<'_>, number: u32)
+    ensures { Adds text.old (quote look source.now number) text.new }
 {
     let mut buffer = Buffer::new();
     let digits = buffer.format(number);
-    push_repeated(text, look.width.saturating_sub(digits.len()), b' ')?;
-    push_three(text, paint_start(look, Paint::Blue), digits, " |")?;
-    push_words(text, paint_end(look))?;
-    push_words(text, " ")?;
-    text.extend_from_slice(source.line(number))?;
-    push_words(text, "\n")
+    push_repeated(text, look.width.saturating_sub(digits.len()), b' ');
+    text.push_words(paint_start(look, Paint::Blue));
+    text.push_words(digits);
+    text.push_words(" |");
+    text.push_words(paint_end(look));
+    text.push_words(" ");
+    text.push_bytes(source.line(number));
+    text.push_words("\n");
 }
 
 /// How many blanks stand at the beginning of a line.
@@ -187,80 +166,82 @@ pub fn statement_of(line: &[u8]) -> &[u8]
 }
 
 /// Adds, below a line, this sign under its statement. What the sign says may follow.
-pub fn push_sign(text: &mut Vec<u8>, look: Look, line: &[u8], mark: u8) -> Result<(), AllocError>
-    ensures { OnOk result (text.new.items ≡ text.old.items ++ sign look line.now mark) }
+pub fn push_sign(text: &mut TextBuilder, look: Look, line: &[u8], mark: u8)
+    ensures { Adds text.old (sign look line.now mark) text.new }
 {
     let (front, statement) = line.split_at(blanks_of(line));
-    push_gutter(text, look)?;
-    push_words(text, " ")?;
-    text.extend_from_slice(front)?;
-    push_words(text, paint_start(look, Paint::Red))?;
-    push_repeated(text, end_of(statement), mark)?;
-    push_words(text, paint_end(look))
+    push_gutter(text, look);
+    text.push_words(" ");
+    text.push_bytes(front);
+    text.push_words(paint_start(look, Paint::Red));
+    push_repeated(text, end_of(statement), mark);
+    text.push_words(paint_end(look));
 }
 
 /// Adds the line of the source with this number, and this sign below its statement.
 pub fn push_marked_line(
-    text: &mut Vec<u8>,
+    text: &mut TextBuilder,
     look: Look,
     source: &Source<'_>,
     number: u32,
     mark: u8,
-) -> Result<(), AllocError>
-    ensures { OnOk result (text.new.items ≡ text.old.items ++ marked look source.now number mark) }
+)
+    ensures { Adds text.old (marked look source.now number mark) text.new }
 {
-    push_quote(text, look, source, number)?;
-    push_sign(text, look, source.line(number), mark)
+    push_quote(text, look, source, number);
+    push_sign(text, look, source.line(number), mark);
 }
 
 /// Adds what stands below these bytes: their tabs, and a space for each other byte.
-fn push_indent(text: &mut Vec<u8>, front: &[u8]) -> Result<(), AllocError>
-    ensures { OnOk result (text.new.items ≡ text.old.items ++ indent front.now) }
+fn push_indent(text: &mut TextBuilder, front: &[u8])
+    ensures { Adds text.old (indent front.now) text.new }
 {
     for byte in front {
-        text.push(if *byte == b'\t' { b'\t' } else { b' ' })?;
+        text.push_byte(if *byte == b'\t' { b'\t' } else { b' ' });
     }
-    Ok(())
 }
 
 /// Adds, below a line, this sign in a paint under a part of it.
 pub fn push_sign_below(
-    text: &mut Vec<u8>,
+    text: &mut TextBuilder,
     look: Look,
     paint: Paint,
     line: &[u8],
     span: Span,
     mark: u8,
-) -> Result<(), AllocError>
+)
     requires { IsWithin span line.now }
-    ensures { OnOk result (text.new.items ≡ text.old.items ++ sign_below look paint line.now span mark) }
+    ensures { Adds text.old (sign_below look paint line.now span mark) text.new }
 {
     let (front, _) = line.split_at(span.from);
-    push_gutter(text, look)?;
-    push_words(text, " ")?;
-    push_indent(text, front)?;
-    push_words(text, paint_start(look, paint))?;
-    push_repeated(text, span.count, mark)?;
-    push_words(text, paint_end(look))
+    push_gutter(text, look);
+    text.push_words(" ");
+    push_indent(text, front);
+    text.push_words(paint_start(look, paint));
+    push_repeated(text, span.count, mark);
+    text.push_words(paint_end(look));
 }
 
 /// Adds how many there are, and of what, which is one word.
-pub fn push_count(text: &mut Vec<u8>, count: usize, word: &str) -> Result<(), AllocError>
-    ensures { OnOk result (text.new.items ≡ text.old.items ++ counted count word.now) }
+pub fn push_count(text: &mut TextBuilder, count: usize, word: &str)
+    ensures { Adds text.old (counted count word.now) text.new }
 {
     let plural = if count == 1 { "" } else { "s" };
-    push_number(text, "", count as u64)?;
-    push_three(text, " ", word, plural)
+    text.push_number("", count as u64);
+    text.push_words(" ");
+    text.push_words(word);
+    text.push_words(plural);
 }
 
 /// Adds where in a file it is: its name and a line, and an empty line at the left.
-pub fn push_place(text: &mut Vec<u8>, look: Look, file: &str, number: u32) -> Result<(), AllocError>
-    ensures { OnOk result (text.new.items ≡ text.old.items ++ place look file.now number) }
+pub fn push_place(text: &mut TextBuilder, look: Look, file: &str, number: u32)
+    ensures { Adds text.old (place look file.now number) text.new }
 {
-    push_left_sign(text, look, "-->")?;
-    push_three(text, " ", file, ":")?;
-    push_number(text, "", u64::from(number))?;
-    push_words(text, "\n")?;
-    push_gutter(text, look)?;
-    push_words(text, "\n")
+    push_left_sign(text, look, "-->");
+    text.push_words(" ");
+    text.push_words(file);
+    text.push_number(":", u64::from(number));
+    text.push_words("\n");
+    push_gutter(text, look);
+    text.push_words("\n");
 }

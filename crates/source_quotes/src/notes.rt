@@ -1,34 +1,32 @@
 //! Notes below a quote.
 
-use crate::look::{Look, push_note_sign, push_three};
+use crate::look::{Look, push_note_sign};
 use std::alloc::{AllocError, Global};
-use text_buffers::{push_number, push_words};
+use text_buffers::TextBuilder;
 
-/// Notes, a line each. That there was no memory for a part is noted, and asked for once, at the end.
+/// Notes, a line each.
 pub(crate) struct Notes {
-    text: Vec<u8>,
+    text: TextBuilder,
     look: Look,
-    is_short: bool,
 }
 
 impl Notes {
     /// No note.
     pub(crate) fn new(alloc: Global, look: Look) -> Notes {
         Notes {
-            text: Vec::new(alloc),
+            text: TextBuilder::new(alloc),
             look,
-            is_short: false,
         }
     }
 
     /// Adds words.
     pub(crate) fn add_words(&mut self, words: &str) {
-        self.is_short |= push_words(&mut self.text, words).is_err();
+        self.text.push_words(words);
     }
 
     /// Begins a note.
     pub(crate) fn begin(&mut self, words: &str) {
-        self.is_short |= push_note_sign(&mut self.text, self.look).is_err();
+        push_note_sign(&mut self.text, self.look);
         self.add_words(words);
     }
 
@@ -65,13 +63,15 @@ impl Notes {
 
     /// Adds a word in quotes, and the words behind it.
     pub(crate) fn add_quoted(&mut self, word: &str, behind: &str) {
-        self.is_short |= push_three(&mut self.text, "`", word, "`").is_err();
+        self.add_three("`", word, "`");
         self.add_words(behind);
     }
 
     /// Adds three pieces of text.
     pub(crate) fn add_three(&mut self, first: &str, second: &str, third: &str) {
-        self.is_short |= push_three(&mut self.text, first, second, third).is_err();
+        self.add_words(first);
+        self.add_words(second);
+        self.add_words(third);
     }
 
     /// Adds a `let` with an operator.
@@ -90,7 +90,7 @@ impl Notes {
 
     /// Adds a number, and the words behind it.
     pub(crate) fn add_number(&mut self, number: u64, behind: &str) {
-        self.is_short |= push_number(&mut self.text, "", number).is_err();
+        self.text.push_number("", number);
         self.add_words(behind);
     }
 
@@ -102,20 +102,13 @@ impl Notes {
     /// Adds a word with small letters in place of upper-case ones.
     pub(crate) fn add_lowercase(&mut self, word: &str) {
         for byte in word.bytes() {
-            self.is_short |= self.text.push(byte.to_ascii_lowercase()).is_err();
+            self.text.push_byte(byte.to_ascii_lowercase());
         }
     }
 
     /// All notes. Errors where there was no memory for a part.
     pub(crate) fn end(self) -> Result<Vec<u8>, AllocError> {
-        let Notes {
-            text,
-            look: _,
-            is_short,
-        } = self;
-        if is_short {
-            return Err(AllocError);
-        }
-        Ok(text)
+        let Notes { text, look: _ } = self;
+        text.end()
     }
 }

@@ -1,7 +1,8 @@
-use Rattle.std.proofs.Common.{◌≡◌, ◌++◌, drop}
+use Rattle.std.proofs.Common.{take}
+use Rattle.text_buffers.specs.Builders.{Adds}
 use Rattle.source_quotes.specs.Parts.{indent}
 use Rattle.source_quotes.proofs.look.push_indent.Given as goal
 
--- what was added, and what stands below the bytes that are left, stand below all
+-- what stands below the bytes so far was added
 abbrev pub invariant-loop-byte : goal.invariant-loop-byte
-invariant-loop-byte l = l.text.items ++ indent (drop l.byte-index l.front) ≡ l.initial.text.items ++ indent l.front
+invariant-loop-byte l = Adds l.initial.text (indent (take l.byte-index l.front)) l.text

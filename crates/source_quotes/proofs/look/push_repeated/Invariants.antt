@@ -1,6 +1,7 @@
-use Rattle.std.proofs.Common.{◌≡◌, ◌++◌, replicate}
+use Rattle.std.proofs.Common.{replicate}
+use Rattle.text_buffers.specs.Builders.{Adds}
 use Rattle.source_quotes.proofs.look.push_repeated.Given as goal
 
 -- so many were added
 abbrev pub invariant-loop : goal.invariant-loop
-invariant-loop l = l.text.items ≡ l.initial.text.items ++ replicate l.counter l.byte
+invariant-loop l = Adds l.initial.text (replicate l.counter l.byte) l.text
