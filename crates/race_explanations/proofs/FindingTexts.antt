@@ -1,5 +1,5 @@
 -- The text of a finding is what is told of its pair.
-use Rattle.std.proofs.Common.{◌≡◌, ℕ, Bool, true, false, List, [], ◌++◌, Option, Some, None, length, map, codes, refl, sym, ap, ◌∙◌, append_assoc, append-nil}
+use Rattle.std.proofs.Common.{◌≡◌, ℕ, Bool, true, false, List, [], ◌++◌, length, map, codes, refl, sym, ap, ◌∙◌, append_assoc, append-nil}
 use Rattle.std.specs.Global.{Vec}
 use Rattle.std.proofs.lemmas.List.{length-map}
 use Rattle.source_quotes.specs.Quotes.{counted}
@@ -9,7 +9,6 @@ use Rattle.race_pairs.specs.Places.{ArePlaces}
 use Rattle.race_pairs.specs.PairKeys.{key_of}
 use Rattle.race_explanations.specs.declared.finding.Finding.{Finding}
 use Rattle.race_explanations.specs.Settings.{Origin, in_program, in_trace, Setting}
-use Rattle.race_explanations.specs.Accounts.{Adds}
 use Rattle.race_explanations.specs.Titles.{told_names, left_out, title_text}
 use Rattle.race_explanations.specs.Messages.{message, earlier_text, refused_text, where_text}
 use Rattle.race_explanations.specs.Cases.{course_of}
@@ -18,14 +17,6 @@ use Rattle.race_explanations.specs.FindingTexts.{finding_with, finding_text}
 use Rattle.model_histories.specs.declared.answer.Entry.{Entry}
 use Rattle.race_pairs.specs.Encounters.{IsEncounter}
 use Rattle.race_explanations.specs.Findings.{kind_text, name_text, body_text, help_text, own_text, IsOfTrace, IsFinding}
-use Rattle.race_explanations.proofs.Accounts.{never, some_is}
-
--- a text that was told from its beginning on
-pub whole_text : (old one : Option (List ℕ)) (words text : List ℕ) → old ≡ Some [] → Adds old words one → one ≡ Some text → text ≡ words
-whole_text None one words text new adds is = absurd (cc)
-whole_text (Some front) None words text new adds is = absurd (never is)
-whole_text (Some front) (Some whole) words text new adds is =
-    sym (some_is is) ∙ sym (some_is adds.adds) ∙ ap (λ l. l ++ words) (some_is new)
 
 regrouped : (k n l s c z e r w h b : List ℕ) →
     k ++ n ++ l ++ s ++ c ++ z ++ (e ++ r ++ w) ++ h ++ b ≡ k ++ (n ++ l) ++ s ++ c ++ z ++ [] ++ e ++ r ++ (w ++ h) ++ b

@@ -1,5 +1,4 @@
 pub mod Telling
-pub mod Accounts
 pub mod Gathering
 pub mod Merging
 mod Placing

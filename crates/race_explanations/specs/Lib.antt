@@ -1,6 +1,5 @@
 pub mod Settings
 pub mod Scenes
-pub mod Accounts
 pub mod Names
 pub mod Extents
 pub mod ToldPlaces

@@ -6,7 +6,7 @@ ghost use Rattle.program_text.specs.Programs.{contents};
 ghost use Rattle.model_histories.specs.declared.answer.Entry.{Entry as AnyEntry};
 ghost use Rattle.race_pairs.specs.Known.{known_count};
 ghost use Rattle.race_pairs.specs.Digests.{IsDigest, most_of};
-ghost use Rattle.race_explanations.specs.Accounts.{Adds};
+ghost use Rattle.text_buffers.specs.Builders.{Adds};
 ghost use Rattle.race_explanations.specs.Scenes.{setting_of};
 ghost use Rattle.trace_text.specs.Traces.{contents as trace_contents};
 ghost use Rattle.race_explanations.specs.Extents.{most_pairs, most_shown};
@@ -14,7 +14,6 @@ ghost use Rattle.race_explanations.specs.Groups.{groups_text};
 ghost use Rattle.race_explanations.specs.Explained.{pairs_left_out, among, summary};
 ghost use Rattle.race_explanations.specs.Explained.{TellsEntries, IsExplanation, IsTraceExplanation, program_file};
 
-use crate::account::Account;
 use crate::case::{Case, cases_of};
 use crate::extent::{Extent, most_pairs, most_shown};
 use crate::group::{pairs_words, push_groups};
@@ -22,45 +21,46 @@ use crate::scene::Scene;
 use crate::settings::{program_scene, trace_scene};
 use program_text::Program;
 use race_pairs::{Digest, Group, group_races};
-use source_quotes::Source;
+use source_quotes::{Source, push_count};
 use std::alloc::{AllocError, Global};
+use text_buffers::TextBuilder;
 use trace_notes::Notes;
 use trace_text::Trace;
 
 /// Adds how many pairs are left out.
-fn push_left_out(account: &mut Account, scene: &Scene<'_, '_>, most: usize, count: usize)
-    ensures { Adds account.old (pairs_left_out (setting_of scene.now).origin most count) account.new }
+fn push_left_out(text: &mut TextBuilder, scene: &Scene<'_, '_>, most: usize, count: usize)
+    ensures { Adds text.old (pairs_left_out (setting_of scene.now).origin most count) text.new }
 {
     if count <= most {
         return;
     }
-    account.push_words("and ");
-    account.push_count(count - most, "more pair");
-    account.push_words(pairs_words(scene));
-    account.push_words("\n");
+    text.push_words("and ");
+    push_count(text, count - most, "more pair");
+    text.push_words(pairs_words(scene));
+    text.push_words("\n");
 }
 
 /// Adds at how many pairs, and among how many requests.
-fn push_among(account: &mut Account, scene: &Scene<'_, '_>, count: usize, requests: usize)
-    ensures { Adds account.old (among (setting_of scene.now).origin count requests) account.new }
+fn push_among(text: &mut TextBuilder, scene: &Scene<'_, '_>, count: usize, requests: usize)
+    ensures { Adds text.old (among (setting_of scene.now).origin count requests) text.new }
 {
-    account.push_words(" at ");
-    account.push_count(count, "pair");
-    account.push_words(pairs_words(scene));
-    account.push_words(", among ");
-    account.push_count(requests, "request");
-    account.push_words("\n");
+    text.push_words(" at ");
+    push_count(text, count, "pair");
+    text.push_words(pairs_words(scene));
+    text.push_words(", among ");
+    push_count(text, requests, "request");
+    text.push_words("\n");
 }
 
 /// Adds how many refusals there were.
-fn push_summary(account: &mut Account, scene: &Scene<'_, '_>)
+fn push_summary(text: &mut TextBuilder, scene: &Scene<'_, '_>)
     requires { (entries : List AnyEntry) × IsDigest entries scene.now.digest.now }
     ensures { (entries : List AnyEntry) → IsDigest entries scene.now.digest.now →
-        Adds account.old (summary (setting_of scene.now).origin entries (known_count scene.now.digest.now.races.known)) account.new }
+        Adds text.old (summary (setting_of scene.now).origin entries (known_count scene.now.digest.now.races.known)) text.new }
 {
-    account.push_count(scene.digest.refusals, "refusal");
+    push_count(text, scene.digest.refusals, "refusal");
     push_among(
-        account,
+        text,
         scene,
         scene.digest.pair_count(),
         scene.digest.lines.len(),
@@ -81,17 +81,17 @@ fn tell_entries(
         pairs_left_out (setting_of scene.now).origin (most_pairs extent) (known_count scene.now.digest.now.races.known) ++
         summary (setting_of scene.now).origin entries (known_count scene.now.digest.now.races.known)) }
 {
-    let mut account = Account::new(alloc);
+    let mut text = TextBuilder::new(alloc);
     let shown = most_shown(extent);
-    push_groups(alloc, &mut account, scene, cases, groups, shown);
+    push_groups(alloc, &mut text, scene, cases, groups, shown);
     push_left_out(
-        &mut account,
+        &mut text,
         scene,
         most_pairs(extent),
         scene.digest.pair_count(),
     );
-    push_summary(&mut account, scene);
-    account.end()
+    push_summary(&mut text, scene);
+    text.end()
 }
 
 /// Tells of the entries of a scene.

@@ -10,7 +10,6 @@ ghost use Rattle.race_explanations.specs.Findings.{kind_text, name_text, body_te
 ghost use Rattle.race_explanations.specs.Findings.{numbered_trace, AddsAll, AddsPairs};
 ghost use Rattle.race_explanations.specs.ToldPlaces.{told_of, told_cmp, IsToldAs};
 
-use crate::account::Account;
 use crate::case::course_of;
 use crate::lead::{Lead, lead_of};
 use crate::merge::FindingList;
@@ -18,8 +17,10 @@ use crate::message::{push_earlier, push_help, push_own_help, push_refused, push_
 use crate::scene::Scene;
 use crate::title::{display_names, push_list, push_reason, sort_word};
 use race_pairs::{Encounter, Pair, Race, Reason};
+use source_quotes::{Paint, push_painted};
 use std::alloc::{AllocError, Global};
 use std::collections::{BTreeMap, BTreeSet};
+use text_buffers::TextBuilder;
 
 /// What is told of a pair of places, in pieces.
 pub struct Finding {
@@ -145,11 +146,11 @@ impl Finding {
 fn kind_of(alloc: Global, scene: &Scene<'_, '_>, reason: Reason) -> Result<Vec<u8>, AllocError>
     ensures { IfOk result (λ text. text.items ≡ kind_text (setting_of scene.now) reason) }
 {
-    let mut account = Account::new(alloc);
-    account.push_red(scene, sort_word(reason));
-    account.push_words(": ");
-    push_reason(&mut account, reason);
-    account.end()
+    let mut text = TextBuilder::new(alloc);
+    push_painted(&mut text, scene.look, Paint::Red, sort_word(reason));
+    text.push_words(": ");
+    push_reason(&mut text, reason);
+    text.end()
 }
 
 /// The first of the places on which it was.
@@ -162,9 +163,9 @@ fn name_of(
     ensures { IfOk result (λ text. text.items ≡ name_text (setting_of scene.now) reason places.now) }
 {
     let (first, _) = places.split_at(places.len().min(1));
-    let mut account = Account::new(alloc);
-    push_list(alloc, &mut account, scene, reason, first);
-    account.end()
+    let mut text = TextBuilder::new(alloc);
+    push_list(alloc, &mut text, scene, reason, first);
+    text.end()
 }
 
 /// The two accesses with what led there, and where they part.
@@ -176,11 +177,11 @@ fn body_of(
 ) -> Result<Vec<u8>, AllocError>
     ensures { IfOk result (λ text. text.items ≡ body_text (setting_of scene.now) pair.now encounter.now) }
 {
-    let mut account = Account::new(alloc);
-    push_earlier(&mut account, scene, pair, encounter);
-    push_refused(&mut account, scene, pair, encounter);
-    push_where(&mut account, scene, pair, encounter);
-    account.end()
+    let mut text = TextBuilder::new(alloc);
+    push_earlier(&mut text, scene, pair, encounter);
+    push_refused(&mut text, scene, pair, encounter);
+    push_where(&mut text, scene, pair, encounter);
+    text.end()
 }
 
 /// What orders the two, by whether a sync is sure to.
@@ -193,9 +194,9 @@ fn help_text(
 ) -> Result<Vec<u8>, AllocError>
     ensures { IfOk result (λ text. text.items ≡ help_text (setting_of scene.now) pair.now encounter.now is_sure) }
 {
-    let mut account = Account::new(alloc);
-    push_help(&mut account, scene, pair, encounter, is_sure);
-    account.end()
+    let mut text = TextBuilder::new(alloc);
+    push_help(&mut text, scene, pair, encounter, is_sure);
+    text.end()
 }
 
 /// What orders the two where what orders all of a group is told once.
@@ -207,9 +208,9 @@ fn own_text(
 ) -> Result<Vec<u8>, AllocError>
     ensures { IfOk result (λ text. text.items ≡ own_text (setting_of scene.now) pair.now encounter.now) }
 {
-    let mut account = Account::new(alloc);
-    push_own_help(&mut account, scene, pair, encounter);
-    account.end()
+    let mut text = TextBuilder::new(alloc);
+    push_own_help(&mut text, scene, pair, encounter);
+    text.end()
 }
 
 /// The finding of a pair of places of the trace with this number.

@@ -4,13 +4,12 @@ ghost use Rattle.std.specs.Prelude.{◌≡◌, ◌++◌, ◌==◌, List, IfOk, O
 ghost use Rattle.model_histories.specs.declared.answer.Entry.{Entry};
 ghost use Rattle.race_pairs.specs.Digests.{IsDigest, most_of};
 ghost use Rattle.trace_text.specs.Traces.{contents as trace_contents};
-ghost use Rattle.race_explanations.specs.Accounts.{Adds};
+ghost use Rattle.text_buffers.specs.Builders.{Adds};
 ghost use Rattle.race_explanations.specs.Explained.{trace_setting};
 ghost use Rattle.race_explanations.specs.Extents.{most_pairs};
 ghost use Rattle.race_explanations.specs.Findings.{found_of, nothing_found, untold_in, AddsTrace, findings_left_out};
 ghost use Rattle.race_explanations.specs.Findings.{requests_text, at_pairs, found_summary, clean_found_text, races_found_text, found_text};
 
-use crate::account::Account;
 use crate::extent::{Extent, most_pairs, most_shown};
 use crate::finding::add_pairs;
 use crate::found_told::tell_groups;
@@ -19,7 +18,7 @@ use crate::settings::trace_scene;
 use race_pairs::Digest;
 use source_quotes::push_count;
 use std::alloc::{AllocError, Global};
-use text_buffers::push_words;
+use text_buffers::TextBuilder;
 use trace_notes::Notes;
 use trace_text::Trace;
 
@@ -48,41 +47,50 @@ impl Drop for Findings {
 }
 
 /// Adds how many pairs of a trace are not kept.
-fn push_untold(text: &mut Vec<u8>, file: &str, most: usize, count: usize) -> Result<(), AllocError>
-    ensures { OnOk result (text.new.items ≡ text.old.items ++ untold_in file.now most count) }
+fn push_untold(
+    untold: &mut Vec<u8>,
+    alloc: Global,
+    file: &str,
+    most: usize,
+    count: usize,
+) -> Result<(), AllocError>
+    ensures { OnOk result (untold.new.items ≡ untold.old.items ++ untold_in file.now most count) }
 {
     if count <= most {
         return Ok(());
     }
-    push_words(text, "and ")?;
-    push_count(text, count - most, "more pair")?;
-    push_words(text, " of places in ")?;
-    push_words(text, file)?;
-    push_words(text, "\n")
+    let mut text = TextBuilder::new(alloc);
+    text.push_words("and ");
+    push_count(&mut text, count - most, "more pair");
+    text.push_words(" of places in ");
+    text.push_words(file);
+    text.push_words("\n");
+    let line = text.end()?;
+    untold.extend_from_slice(line.as_slice())
 }
 
 /// Tells how many pairs are kept, and not told.
-fn tell_left_out(account: &mut Account, most: usize, count: usize)
-    ensures { Adds account.old (findings_left_out most count) account.new }
+fn tell_left_out(text: &mut TextBuilder, most: usize, count: usize)
+    ensures { Adds text.old (findings_left_out most count) text.new }
 {
     if count <= most {
         return;
     }
-    account.push_words("and ");
-    account.push_count(count - most, "more pair");
-    account.push_words(" of places\n");
+    text.push_words("and ");
+    push_count(text, count - most, "more pair");
+    text.push_words(" of places\n");
 }
 
 /// Tells at how many pairs, where all are kept.
-fn tell_pairs(account: &mut Account, untold: &[u8], count: usize)
-    ensures { Adds account.old (at_pairs untold.now count) account.new }
+fn tell_pairs(text: &mut TextBuilder, untold: &[u8], count: usize)
+    ensures { Adds text.old (at_pairs untold.now count) text.new }
 {
     if !untold.is_empty() {
         return;
     }
-    account.push_words(" at ");
-    account.push_count(count, "pair");
-    account.push_words(" of places");
+    text.push_words(" at ");
+    push_count(text, count, "pair");
+    text.push_words(" of places");
 }
 
 impl Findings {
@@ -118,7 +126,7 @@ impl Findings {
     {
         let scene = trace_scene(is_painted, notes, trace, digest);
         let count = add_pairs(alloc, &scene, self.traces, &mut self.list)?;
-        push_untold(&mut self.untold, file, most_pairs(extent), count)?;
+        push_untold(&mut self.untold, alloc, file, most_pairs(extent), count)?;
         self.refusals = self.refusals.saturating_add(digest.refusals);
         self.requests = self.requests.saturating_add(digest.lines.len());
         self.traces = self.traces.saturating_add(1);
@@ -133,57 +141,57 @@ impl Findings {
     }
 
     /// Tells how many requests there were, in how many traces.
-    fn tell_requests(&self, account: &mut Account)
-        ensures { Adds account.old (requests_text (found_of self.now)) account.new }
+    fn tell_requests(&self, text: &mut TextBuilder)
+        ensures { Adds text.old (requests_text (found_of self.now)) text.new }
     {
-        account.push_count(self.requests, "request");
-        account.push_words(" in ");
-        account.push_count(self.traces, "trace");
-        account.push_words("\n");
+        push_count(text, self.requests, "request");
+        text.push_words(" in ");
+        push_count(text, self.traces, "trace");
+        text.push_words("\n");
     }
 
     /// Tells that nothing was refused.
-    fn tell_clean(&self, account: &mut Account)
-        ensures { Adds account.old (clean_found_text (found_of self.now)) account.new }
+    fn tell_clean(&self, text: &mut TextBuilder)
+        ensures { Adds text.old (clean_found_text (found_of self.now)) text.new }
     {
-        account.push_words("clean: in none of these ");
-        account.push_count(self.traces, "trace");
-        account.push_words(
+        text.push_words("clean: in none of these ");
+        push_count(text, self.traces, "trace");
+        text.push_words(
             " do two of the accesses race, in whatever order its strands run\njudged: ",
         );
-        self.tell_requests(account);
+        self.tell_requests(text);
     }
 
     /// Tells how many refusals there were.
-    fn tell_summary(&self, account: &mut Account)
-        ensures { Adds account.old (found_summary (found_of self.now)) account.new }
+    fn tell_summary(&self, text: &mut TextBuilder)
+        ensures { Adds text.old (found_summary (found_of self.now)) text.new }
     {
-        account.push_count(self.refusals, "refusal");
-        tell_pairs(account, self.untold.as_slice(), self.list.len());
-        account.push_words(", among ");
-        self.tell_requests(account);
+        push_count(text, self.refusals, "refusal");
+        tell_pairs(text, self.untold.as_slice(), self.list.len());
+        text.push_words(", among ");
+        self.tell_requests(text);
     }
 
     /// Tells what raced.
-    fn tell_races(&self, alloc: Global, extent: Extent, account: &mut Account)
-        ensures { Adds account.old (races_found_text extent (found_of self.now)) account.new }
+    fn tell_races(&self, alloc: Global, extent: Extent, text: &mut TextBuilder)
+        ensures { Adds text.old (races_found_text extent (found_of self.now)) text.new }
     {
         let most = most_pairs(extent);
         let (first, _) = self.list.as_slice().split_at(self.list.len().min(most));
-        tell_groups(alloc, account, first, most_shown(extent));
-        tell_left_out(account, most, self.list.len());
-        account.push_bytes(self.untold.as_slice());
-        self.tell_summary(account);
+        tell_groups(alloc, text, first, most_shown(extent));
+        tell_left_out(text, most, self.list.len());
+        text.push_bytes(self.untold.as_slice());
+        self.tell_summary(text);
     }
 
     /// Tells what raced, or that nothing was refused.
-    fn tell(&self, alloc: Global, extent: Extent, account: &mut Account)
-        ensures { Adds account.old (found_text extent (found_of self.now)) account.new }
+    fn tell(&self, alloc: Global, extent: Extent, text: &mut TextBuilder)
+        ensures { Adds text.old (found_text extent (found_of self.now)) text.new }
     {
         if self.is_clean() {
-            self.tell_clean(account);
+            self.tell_clean(text);
         } else {
-            self.tell_races(alloc, extent, account);
+            self.tell_races(alloc, extent, text);
         }
     }
 
@@ -193,8 +201,8 @@ impl Findings {
     pub fn to_message(&self, alloc: Global, extent: Extent) -> Result<Vec<u8>, AllocError>
         ensures { IfOk result (λ text. text.items ≡ found_text extent (found_of self.now)) }
     {
-        let mut account = Account::new(alloc);
-        self.tell(alloc, extent, &mut account);
-        account.end()
+        let mut text = TextBuilder::new(alloc);
+        self.tell(alloc, extent, &mut text);
+        text.end()
     }
 }

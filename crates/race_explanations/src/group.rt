@@ -4,14 +4,13 @@ ghost use Rattle.std.specs.Prelude.{◌≡◌, ◌++◌, List, None, false, IfOk
 ghost use Rattle.model_histories.specs.declared.answer.Entry.{Entry};
 ghost use Rattle.race_pairs.specs.declared.race.Pair.{Pair};
 ghost use Rattle.race_pairs.specs.Digests.{IsDigest};
-ghost use Rattle.race_explanations.specs.Accounts.{Adds};
+ghost use Rattle.text_buffers.specs.Builders.{Adds};
 ghost use Rattle.race_explanations.specs.Scenes.{setting_of};
 ghost use Rattle.race_explanations.specs.Cases.{AreCases};
 ghost use Rattle.race_explanations.specs.SharedSyncs.{OneSyncOrders};
 ghost use Rattle.race_explanations.specs.Groups.{alone_at, alone_text, member_at, members_text, course_at, courses_of, before, nearer, first_among, is_ordered, has_round, leaves_open};
 ghost use Rattle.race_explanations.specs.Groups.{pairs_words, beside_text, first_text, rounds_text, is_sure, is_sure_of, is_sure_at, is_group_sure, sync_text, head_text, behind_text, many_text, text_at_line, group_text, groups_text};
 
-use crate::account::Account;
 use crate::advice::{push_function, push_rounds, push_sync};
 use crate::case::{Case, Course, course_of};
 use crate::message::{push_case, push_member};
@@ -19,7 +18,9 @@ use crate::paths::push_line;
 use crate::scene::{Origin, Scene};
 use crate::words::are_in_one_call;
 use race_pairs::Group;
+use source_quotes::push_count;
 use std::alloc::{AllocError, Global};
+use text_buffers::TextBuilder;
 
 /// What there are pairs of.
 pub(crate) fn pairs_words(scene: &Scene<'_, '_>) -> &'static str
@@ -34,16 +35,16 @@ pub(crate) fn pairs_words(scene: &Scene<'_, '_>) -> &'static str
 /// Tells of the race at a place as of one that is alone.
 fn push_alone_at(
     alloc: Global,
-    account: &mut Account,
+    text: &mut TextBuilder,
     scene: &Scene<'_, '_>,
     cases: &[Case<'_>],
     is_sure: bool,
     place: usize,
 )
-    ensures { Adds account.old (alone_at (setting_of scene.now) cases.now is_sure place) account.new }
+    ensures { Adds text.old (alone_at (setting_of scene.now) cases.now is_sure place) text.new }
 {
     match cases.get(place) {
-        Some(case) => push_case(alloc, account, scene, case, is_sure),
+        Some(case) => push_case(alloc, text, scene, case, is_sure),
         None => {}
     }
 }
@@ -51,31 +52,31 @@ fn push_alone_at(
 /// Tells of races as of such that are alone.
 fn push_alone(
     alloc: Global,
-    account: &mut Account,
+    text: &mut TextBuilder,
     scene: &Scene<'_, '_>,
     cases: &[Case<'_>],
     is_sure: bool,
     places: &[usize],
 )
-    ensures { Adds account.old (alone_text (setting_of scene.now) cases.now is_sure places.now) account.new }
+    ensures { Adds text.old (alone_text (setting_of scene.now) cases.now is_sure places.now) text.new }
 {
     for place in places {
-        push_alone_at(alloc, account, scene, cases, is_sure, *place);
+        push_alone_at(alloc, text, scene, cases, is_sure, *place);
     }
 }
 
 /// Tells of the race at a place as of one of several that part at one spawn.
 fn push_member_at(
     alloc: Global,
-    account: &mut Account,
+    text: &mut TextBuilder,
     scene: &Scene<'_, '_>,
     cases: &[Case<'_>],
     place: usize,
 )
-    ensures { Adds account.old (member_at (setting_of scene.now) cases.now place) account.new }
+    ensures { Adds text.old (member_at (setting_of scene.now) cases.now place) text.new }
 {
     match cases.get(place) {
-        Some(case) => push_member(alloc, account, scene, case),
+        Some(case) => push_member(alloc, text, scene, case),
         None => {}
     }
 }
@@ -83,15 +84,15 @@ fn push_member_at(
 /// Tells of races as of several that part at one spawn.
 fn push_members(
     alloc: Global,
-    account: &mut Account,
+    text: &mut TextBuilder,
     scene: &Scene<'_, '_>,
     cases: &[Case<'_>],
     places: &[usize],
 )
-    ensures { Adds account.old (members_text (setting_of scene.now) cases.now places.now) account.new }
+    ensures { Adds text.old (members_text (setting_of scene.now) cases.now places.now) text.new }
 {
     for place in places {
-        push_member_at(alloc, account, scene, cases, *place);
+        push_member_at(alloc, text, scene, cases, *place);
     }
 }
 
@@ -255,66 +256,66 @@ pub fn is_group_sure(
 
 /// Adds beside what runs what is spawned on a line.
 pub(crate) fn push_beside(
-    account: &mut Account,
+    text: &mut TextBuilder,
     scene: &Scene<'_, '_>,
     line: u32,
     first: Option<Course>,
 )
-    ensures { Adds account.old (beside_text (setting_of scene.now) line first) account.new }
+    ensures { Adds text.old (beside_text (setting_of scene.now) line first) text.new }
 {
     match first {
         Some(first) => {
-            account.push_words("what ");
-            push_function(account, scene, line);
-            account.push_words(" does from ");
-            push_line(account, scene, first.line);
-            account.push_words(" on\n");
+            text.push_words("what ");
+            push_function(text, scene, line);
+            text.push_words(" does from ");
+            push_line(text, scene, first.line);
+            text.push_words(" on\n");
         }
-        None => account.push_words("what is spawned there again\n"),
+        None => text.push_words("what is spawned there again\n"),
     }
 }
 
 /// Adds how many races part at one spawn, and what runs beside what.
 fn push_first_line(
-    account: &mut Account,
+    text: &mut TextBuilder,
     scene: &Scene<'_, '_>,
     line: u32,
     count: usize,
     first: Option<Course>,
 )
-    ensures { Adds account.old (first_text (setting_of scene.now) line count first) account.new }
+    ensures { Adds text.old (first_text (setting_of scene.now) line count first) text.new }
 {
-    account.push_count(count, "pair");
-    account.push_words(pairs_words(scene));
-    account.push_words(" part at one spawn: what is spawned at ");
-    push_line(account, scene, line);
-    account.push_words(" runs beside ");
-    push_beside(account, scene, line, first);
+    push_count(text, count, "pair");
+    text.push_words(pairs_words(scene));
+    text.push_words(" part at one spawn: what is spawned at ");
+    push_line(text, scene, line);
+    text.push_words(" runs beside ");
+    push_beside(text, scene, line, first);
 }
 
 /// Adds what orders the rounds among races that part at one spawn.
-fn push_rounds_of(account: &mut Account, scene: &Scene<'_, '_>, courses: &[Course])
-    ensures { Adds account.old (rounds_text (setting_of scene.now) courses.now) account.new }
+fn push_rounds_of(text: &mut TextBuilder, scene: &Scene<'_, '_>, courses: &[Course])
+    ensures { Adds text.old (rounds_text (setting_of scene.now) courses.now) text.new }
 {
     if has_round(courses) {
-        push_rounds(account, scene);
+        push_rounds(text, scene);
     }
 }
 
 /// Adds the sync that orders the others.
 fn push_sync_of(
-    account: &mut Account,
+    text: &mut TextBuilder,
     scene: &Scene<'_, '_>,
     line: u32,
     first: Option<Course>,
     courses: &[Course],
 )
-    ensures { Adds account.old (sync_text (setting_of scene.now) line first courses.now) account.new }
+    ensures { Adds text.old (sync_text (setting_of scene.now) line first courses.now) text.new }
 {
     match first {
         Some(first) => {
             let is_sure = is_sure(scene, line, first, courses);
-            push_sync(account, scene, line, first.line, is_sure);
+            push_sync(text, scene, line, first.line, is_sure);
         }
         None => {}
     }
@@ -322,113 +323,113 @@ fn push_sync_of(
 
 /// Adds how many races part at one spawn, and what orders them.
 fn push_head(
-    account: &mut Account,
+    text: &mut TextBuilder,
     scene: &Scene<'_, '_>,
     line: u32,
     count: usize,
     courses: &[Course],
 )
-    ensures { Adds account.old (head_text (setting_of scene.now) line count courses.now) account.new }
+    ensures { Adds text.old (head_text (setting_of scene.now) line count courses.now) text.new }
 {
     let first = first_among(courses);
-    push_first_line(account, scene, line, count, first);
-    push_rounds_of(account, scene, courses);
-    push_sync_of(account, scene, line, first, courses);
-    account.push_words("\n");
+    push_first_line(text, scene, line, count, first);
+    push_rounds_of(text, scene, courses);
+    push_sync_of(text, scene, line, first, courses);
+    text.push_words("\n");
 }
 
 /// Adds how many of the races that part at one spawn are not shown.
-fn push_behind(account: &mut Account, scene: &Scene<'_, '_>, most: usize, count: usize)
-    ensures { Adds account.old (behind_text (setting_of scene.now).origin most count) account.new }
+fn push_behind(text: &mut TextBuilder, scene: &Scene<'_, '_>, most: usize, count: usize)
+    ensures { Adds text.old (behind_text (setting_of scene.now).origin most count) text.new }
 {
     if count <= most {
         return;
     }
-    account.push_words("and ");
-    account.push_count(count - most, "more pair");
-    account.push_words(pairs_words(scene));
-    account.push_words(" that part there (--all shows them)\n\n");
+    text.push_words("and ");
+    push_count(text, count - most, "more pair");
+    text.push_words(pairs_words(scene));
+    text.push_words(" that part there (--all shows them)\n\n");
 }
 
 /// Tells of several races that part at one spawn.
 fn push_many(
     alloc: Global,
-    account: &mut Account,
+    text: &mut TextBuilder,
     scene: &Scene<'_, '_>,
     cases: &[Case<'_>],
     line: u32,
     places: &[usize],
     most: usize,
 )
-    ensures { Adds account.old (many_text (setting_of scene.now) most cases.now line places.now) account.new }
+    ensures { Adds text.old (many_text (setting_of scene.now) most cases.now line places.now) text.new }
 {
     let Ok(courses) = courses_of(alloc, scene, cases, places) else {
-        return account.fail();
+        return text.fail();
     };
-    push_head(account, scene, line, places.len(), courses.as_slice());
+    push_head(text, scene, line, places.len(), courses.as_slice());
     let (shown, _) = places.split_at(places.len().min(most));
-    push_members(alloc, account, scene, cases, shown);
-    push_behind(account, scene, most, places.len());
+    push_members(alloc, text, scene, cases, shown);
+    push_behind(text, scene, most, places.len());
 }
 
 /// Tells of races that part at spawns on a line.
 fn push_at_line(
     alloc: Global,
-    account: &mut Account,
+    text: &mut TextBuilder,
     scene: &Scene<'_, '_>,
     cases: &[Case<'_>],
     line: u32,
     places: &[usize],
     most: usize,
 )
-    ensures { Adds account.old (text_at_line (setting_of scene.now) most cases.now line places.now) account.new }
+    ensures { Adds text.old (text_at_line (setting_of scene.now) most cases.now line places.now) text.new }
 {
     if places.len() > 1 {
-        return push_many(alloc, account, scene, cases, line, places, most);
+        return push_many(alloc, text, scene, cases, line, places, most);
     }
     let Ok(is_sure) = is_sure_at(alloc, scene, cases, line, places) else {
-        return account.fail();
+        return text.fail();
     };
-    push_alone(alloc, account, scene, cases, is_sure, places);
+    push_alone(alloc, text, scene, cases, is_sure, places);
 }
 
 /// Tells of a group of races.
 fn push_group(
     alloc: Global,
-    account: &mut Account,
+    text: &mut TextBuilder,
     scene: &Scene<'_, '_>,
     cases: &[Case<'_>],
     group: &Group,
     most: usize,
 )
-    ensures { Adds account.old (group_text (setting_of scene.now) most cases.now group.now) account.new }
+    ensures { Adds text.old (group_text (setting_of scene.now) most cases.now group.now) text.new }
 {
     match group.spawn {
         Some(line) => push_at_line(
             alloc,
-            account,
+            text,
             scene,
             cases,
             line,
             group.places.as_slice(),
             most,
         ),
-        None => push_alone(alloc, account, scene, cases, false, group.places.as_slice()),
+        None => push_alone(alloc, text, scene, cases, false, group.places.as_slice()),
     }
 }
 
 /// Tells of groups of races. Of those that part at one spawn so many are shown at most.
 pub(crate) fn push_groups(
     alloc: Global,
-    account: &mut Account,
+    text: &mut TextBuilder,
     scene: &Scene<'_, '_>,
     cases: &[Case<'_>],
     groups: &[Group],
     most: usize,
 )
-    ensures { Adds account.old (groups_text (setting_of scene.now) most cases.now groups.now) account.new }
+    ensures { Adds text.old (groups_text (setting_of scene.now) most cases.now groups.now) text.new }
 {
     for group in groups {
-        push_group(alloc, account, scene, cases, group, most);
+        push_group(alloc, text, scene, cases, group, most);
     }
 }

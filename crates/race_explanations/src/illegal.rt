@@ -8,15 +8,17 @@ ghost use Rattle.model_histories.specs.Faults.{HasCause};
 ghost use Rattle.model_histories.specs.Legal.{IsLegal};
 ghost use Rattle.model_histories.specs.Shapes.{Shape};
 ghost use Rattle.model_histories.specs.States.{GateState};
-ghost use Rattle.race_explanations.specs.Accounts.{Adds};
+ghost use Rattle.text_buffers.specs.Builders.{Adds};
 ghost use Rattle.race_explanations.specs.Illegal.{HasReason, request_line, at_of, strand_of, told_line, told_request, title_words, help_words, reason_text};
 ghost use Rattle.race_explanations.specs.Illegal.{error_title, request_note, help_note, illegal_in, illegal_text};
 
-use crate::account::Account;
 use race_gate::{Entry, GateFault};
 use race_pairs::{Standing, count_strands, standing_of};
-use source_quotes::{Look, Paint, Source, statement_of};
+use source_quotes::{
+    Look, Paint, Source, push_marked_line, push_note_sign, push_painted, push_place, statement_of,
+};
 use std::alloc::{AllocError, Global};
+use text_buffers::TextBuilder;
 use text_words::{Request, TraceLine};
 use trace_text::Trace;
 
@@ -131,108 +133,108 @@ pub fn help_words(why: Illegality) -> &'static str
 }
 
 /// Adds a line of the trace in a sentence.
-fn push_line(account: &mut Account, source: &Source<'_>, number: u32)
-    ensures { Adds account.old (told_line source.now number) account.new }
+fn push_line(text: &mut TextBuilder, source: &Source<'_>, number: u32)
+    ensures { Adds text.old (told_line source.now number) text.new }
 {
-    account.push_number("line ", u64::from(number));
-    account.push_words(": `");
-    account.push_bytes(statement_of(source.line(number)));
-    account.push_words("`");
+    text.push_number("line ", u64::from(number));
+    text.push_words(": `");
+    text.push_bytes(statement_of(source.line(number)));
+    text.push_words("`");
 }
 
 /// Adds the line of the request with this number.
-fn push_request(account: &mut Account, source: &Source<'_>, trace: &Trace<Global>, number: usize)
-    ensures { Adds account.old (told_request source.now (trace_contents trace.now).lines number) account.new }
+fn push_request(text: &mut TextBuilder, source: &Source<'_>, trace: &Trace<Global>, number: usize)
+    ensures { Adds text.old (told_request source.now (trace_contents trace.now).lines number) text.new }
 {
-    push_line(account, source, at_of(request_line(trace, number)));
+    push_line(text, source, at_of(request_line(trace, number)));
 }
 
 /// Adds what is so of the strand.
-fn push_reason(account: &mut Account, source: &Source<'_>, trace: &Trace<Global>, why: Illegality)
-    ensures { Adds account.old (reason_text source.now (trace_contents trace.now).lines why) account.new }
+fn push_reason(text: &mut TextBuilder, source: &Source<'_>, trace: &Trace<Global>, why: Illegality)
+    ensures { Adds text.old (reason_text source.now (trace_contents trace.now).lines why) text.new }
 {
     match why {
         Illegality::Ended(number) => {
-            account.push_words(" ended at ");
-            push_request(account, source, trace, number);
+            text.push_words(" ended at ");
+            push_request(text, source, trace, number);
         }
         Illegality::NotBegun(number) => {
-            account.push_words(" is the join of the block that opened at ");
-            push_request(account, source, trace, number);
+            text.push_words(" is the join of the block that opened at ");
+            push_request(text, source, trace, number);
         }
         Illegality::NoStrand(count) => {
-            account.push_number(
+            text.push_number(
                 " is none of those that have begun: the numbers below ",
                 count as u64,
             );
-            account.push_words(" are given");
+            text.push_words(" are given");
         }
         Illegality::OpenBlock => {
-            account.push_words(" returns from a function that has spawned and not synced");
+            text.push_words(" returns from a function that has spawned and not synced");
         }
-        Illegality::NoName => account.push_words(" asks for what the trace does not declare"),
+        Illegality::NoName => text.push_words(" asks for what the trace does not declare"),
     }
 }
 
 /// Adds what is wrong.
-fn push_title(account: &mut Account, look: Look, why: Illegality)
-    ensures { Adds account.old (error_title look why) account.new }
+fn push_title(text: &mut TextBuilder, look: Look, why: Illegality)
+    ensures { Adds text.old (error_title look why) text.new }
 {
-    account.push_painted(look, Paint::Red, "error");
-    account.push_words(": ");
-    account.push_words(title_words(why));
-    account.push_words("\n");
+    push_painted(text, look, Paint::Red, "error");
+    text.push_words(": ");
+    text.push_words(title_words(why));
+    text.push_words("\n");
 }
 
 /// Adds the number of the request, and what is so of its strand.
 fn push_note(
-    account: &mut Account,
+    text: &mut TextBuilder,
     look: Look,
     source: &Source<'_>,
     trace: &Trace<Global>,
     number: usize,
     why: Illegality,
 )
-    ensures { Adds account.old (request_note look source.now (trace_contents trace.now).lines number why) account.new }
+    ensures { Adds text.old (request_note look source.now (trace_contents trace.now).lines number why) text.new }
 {
     let strand = strand_of(request_line(trace, number));
-    account.begin_note(look);
-    account.push_number("request ", number as u64);
-    account.push_number(": strand ", u64::from(strand));
-    push_reason(account, source, trace, why);
-    account.push_words("\n");
+    push_note_sign(text, look);
+    text.push_number("request ", number as u64);
+    text.push_number(": strand ", u64::from(strand));
+    push_reason(text, source, trace, why);
+    text.push_words("\n");
 }
 
 /// Adds what to do.
-fn push_help(account: &mut Account, look: Look, why: Illegality)
-    ensures { Adds account.old (help_note look why) account.new }
+fn push_help(text: &mut TextBuilder, look: Look, why: Illegality)
+    ensures { Adds text.old (help_note look why) text.new }
 {
-    account.begin_note(look);
-    account.push_words("help: ");
-    account.push_words(help_words(why));
-    account.push_words("\n");
+    push_note_sign(text, look);
+    text.push_words("help: ");
+    text.push_words(help_words(why));
+    text.push_words("\n");
 }
 
 /// Adds what is wrong, and the line of the request.
 fn push_head(
-    account: &mut Account,
+    text: &mut TextBuilder,
     look: Look,
     file: &str,
     source: &Source<'_>,
     line: u32,
     why: Illegality,
 )
-    ensures { Adds account.old (error_title look why ++ place look file.now line ++ marked look source.now line 94 ++ codes "\n") account.new }
+    ensures { Adds text.old (error_title look why ++ place look file.now line ++ marked look source.now line 94 ++ codes "\n") text.new }
 {
-    push_title(account, look, why);
-    account.push_place(look, file, line);
-    account.push_marked_line(look, source, line, b'^');
-    account.push_words("\n");
+    push_title(text, look, why);
+    push_place(text, look, file, line);
+    push_marked_line(text, look, source, line, b'^');
+    text.push_words("\n");
 }
 
 /// Adds all that is told of the request with this number.
 fn push_illegal(
-    account: &mut Account,
+    text: &mut TextBuilder,
     look: Look,
     file: &str,
     source: &Source<'_>,
@@ -240,12 +242,12 @@ fn push_illegal(
     number: usize,
     why: Illegality,
 )
-    ensures { Adds account.old (illegal_in look file.now source.now (trace_contents trace.now).lines number why) account.new }
+    ensures { Adds text.old (illegal_in look file.now source.now (trace_contents trace.now).lines number why) text.new }
 {
     let line = at_of(request_line(trace, number));
-    push_head(account, look, file, source, line, why);
-    push_note(account, look, source, trace, number, why);
-    push_help(account, look, why);
+    push_head(text, look, file, source, line, why);
+    push_note(text, look, source, trace, number, why);
+    push_help(text, look, why);
 }
 
 /// Explains to a person why the request with this number, from 1 on, of the trace that a text means is illegal: what is wrong, the line of
@@ -264,7 +266,7 @@ pub fn illegal_explanation(
 {
     let source = Source::new(alloc, text)?;
     let look = Look::of(is_painted, &source);
-    let mut account = Account::new(alloc);
-    push_illegal(&mut account, look, file, &source, trace, number, why);
-    account.end()
+    let mut told = TextBuilder::new(alloc);
+    push_illegal(&mut told, look, file, &source, trace, number, why);
+    told.end()
 }

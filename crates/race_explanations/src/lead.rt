@@ -7,7 +7,6 @@ ghost use Rattle.race_explanations.specs.Advice.{help_begun, sync_place, rounds_
 ghost use Rattle.race_explanations.specs.Groups.{beside_text};
 ghost use Rattle.race_explanations.specs.Leads.{IsLead, IsLeadOf};
 
-use crate::account::Account;
 use crate::advice::{begin_help, push_rounds, push_sync_place};
 use crate::case::Course;
 use crate::group::push_beside;
@@ -15,6 +14,7 @@ use crate::paths::push_line;
 use crate::scene::Scene;
 use crate::words::are_in_one_call;
 use std::alloc::{AllocError, Global};
+use text_buffers::TextBuilder;
 
 /// The spawn at which the two strands of a finding part.
 pub struct Lead {
@@ -56,9 +56,9 @@ impl Drop for Lead {
 fn line_text(alloc: Global, scene: &Scene<'_, '_>, line: u32) -> Result<Vec<u8>, AllocError>
     ensures { IfOk result (λ text. text.items ≡ line_words (setting_of scene.now).origin line) }
 {
-    let mut account = Account::new(alloc);
-    push_line(&mut account, scene, line);
-    account.end()
+    let mut text = TextBuilder::new(alloc);
+    push_line(&mut text, scene, line);
+    text.end()
 }
 
 /// Beside what runs what is spawned on a line.
@@ -70,9 +70,9 @@ fn beside_text(
 ) -> Result<Vec<u8>, AllocError>
     ensures { IfOk result (λ text. text.items ≡ beside_text (setting_of scene.now) line (Some course)) }
 {
-    let mut account = Account::new(alloc);
-    push_beside(&mut account, scene, line, Some(course));
-    account.end()
+    let mut text = TextBuilder::new(alloc);
+    push_beside(&mut text, scene, line, Some(course));
+    text.end()
 }
 
 /// A sync in the function that spawns on a line, before it goes on to another line.
@@ -84,19 +84,19 @@ fn sync_text(
 ) -> Result<Vec<u8>, AllocError>
     ensures { IfOk result (λ text. text.items ≡ help_begun (setting_of scene.now) ++ sync_place (setting_of scene.now) line onward) }
 {
-    let mut account = Account::new(alloc);
-    begin_help(&mut account, scene);
-    push_sync_place(&mut account, scene, line, onward);
-    account.end()
+    let mut text = TextBuilder::new(alloc);
+    begin_help(&mut text, scene);
+    push_sync_place(&mut text, scene, line, onward);
+    text.end()
 }
 
 /// What would order the rounds of a loop.
 fn rounds_text(alloc: Global, scene: &Scene<'_, '_>) -> Result<Vec<u8>, AllocError>
     ensures { IfOk result (λ text. text.items ≡ rounds_note (setting_of scene.now)) }
 {
-    let mut account = Account::new(alloc);
-    push_rounds(&mut account, scene);
-    account.end()
+    let mut text = TextBuilder::new(alloc);
+    push_rounds(&mut text, scene);
+    text.end()
 }
 
 /// The spawn on a line, at which two strands of the trace with this number part, whose spawner goes on so.

@@ -9,7 +9,6 @@
 //! [`illegal_explanation`] tells why a request of a trace is illegal, by a reason that [`find_illegality`] finds in the history before it.
 #![tactic(auto)]
 
-mod account;
 mod advice;
 mod case;
 mod explanations;

@@ -2,13 +2,12 @@
 
 ghost use Rattle.std.specs.Prelude.{◌≡◌, ◌++◌, IfOk};
 ghost use Rattle.std.specs.Option.{option_map};
-ghost use Rattle.race_explanations.specs.Accounts.{Adds};
+ghost use Rattle.text_buffers.specs.Builders.{Adds};
 ghost use Rattle.race_explanations.specs.Scenes.{setting_of};
 ghost use Rattle.race_explanations.specs.Advice.{help_note, sync_help_of, move_help_of};
 ghost use Rattle.race_explanations.specs.Messages.{witness_text, earlier_text, where_text, help_of, own_help_of};
 ghost use Rattle.race_explanations.specs.Messages.{verdict_words, refused_text, advice_text, message, case_text, member_message, member_text};
 
-use crate::account::Account;
 use crate::advice::{
     line_on, move_help, push_between, push_move_note, push_opened, push_parted, push_put_note,
     push_sync_note, put_words, sync_help,
@@ -20,6 +19,7 @@ use crate::title::push_title;
 use crate::words::line_of;
 use race_pairs::{Encounter, OpenSpawn, Pair, Parting, Reason};
 use std::alloc::{AllocError, Global};
+use text_buffers::TextBuilder;
 
 /// What is told of the refused access on its own line.
 fn verdict_words(reason: Reason) -> &'static str
@@ -33,61 +33,61 @@ fn verdict_words(reason: Reason) -> &'static str
 }
 
 /// Adds the earlier access, and what led there.
-fn push_witness(account: &mut Account, scene: &Scene<'_, '_>, pair: &Pair, encounter: &Encounter)
-    ensures { Adds account.old (witness_text (setting_of scene.now) pair.now encounter.now) account.new }
+fn push_witness(text: &mut TextBuilder, scene: &Scene<'_, '_>, pair: &Pair, encounter: &Encounter)
+    ensures { Adds text.old (witness_text (setting_of scene.now) pair.now encounter.now) text.new }
 {
-    push_access(account, scene, pair.witness, encounter.witness, b'-');
-    account.push_words("\n");
-    push_chain(account, scene, encounter.witness_chain.as_slice());
-    push_between(account, scene);
+    push_access(text, scene, pair.witness, encounter.witness, b'-');
+    text.push_words("\n");
+    push_chain(text, scene, encounter.witness_chain.as_slice());
+    push_between(text, scene);
 }
 
 /// Adds what is told of the earlier access, where there is one.
 pub(crate) fn push_earlier(
-    account: &mut Account,
+    text: &mut TextBuilder,
     scene: &Scene<'_, '_>,
     pair: &Pair,
     encounter: &Encounter,
 )
-    ensures { Adds account.old (earlier_text pair.now.lines.reason (setting_of scene.now) pair.now encounter.now) account.new }
+    ensures { Adds text.old (earlier_text pair.now.lines.reason (setting_of scene.now) pair.now encounter.now) text.new }
 {
     match pair.lines.reason {
-        Reason::Race { .. } | Reason::ViewRead => push_witness(account, scene, pair, encounter),
+        Reason::Race { .. } | Reason::ViewRead => push_witness(text, scene, pair, encounter),
         Reason::Unset => {}
     }
 }
 
 /// Adds the refused access, and what led there.
 pub(crate) fn push_refused(
-    account: &mut Account,
+    text: &mut TextBuilder,
     scene: &Scene<'_, '_>,
     pair: &Pair,
     encounter: &Encounter,
 )
-    ensures { Adds account.old (refused_text (setting_of scene.now) pair.now encounter.now) account.new }
+    ensures { Adds text.old (refused_text (setting_of scene.now) pair.now encounter.now) text.new }
 {
-    push_access(account, scene, pair.first, Some(encounter.refused), b'^');
-    account.push_words(verdict_words(pair.lines.reason));
-    push_chain(account, scene, encounter.chain.as_slice());
+    push_access(text, scene, pair.first, Some(encounter.refused), b'^');
+    text.push_words(verdict_words(pair.lines.reason));
+    push_chain(text, scene, encounter.chain.as_slice());
 }
 
 /// Adds where the two strands of a race part, and of a view-read race which spawn is outstanding at one of them alone.
 pub(crate) fn push_where(
-    account: &mut Account,
+    text: &mut TextBuilder,
     scene: &Scene<'_, '_>,
     pair: &Pair,
     encounter: &Encounter,
 )
-    ensures { Adds account.old (where_text pair.now.lines.reason (setting_of scene.now) pair.now encounter.now) account.new }
+    ensures { Adds text.old (where_text pair.now.lines.reason (setting_of scene.now) pair.now encounter.now) text.new }
 {
     let refused = encounter.refused.strand;
     match pair.lines.reason {
         Reason::Race { .. } => {
             let onward = line_of(scene, encounter.onward.unwrap_or(0));
-            push_parted(account, scene, pair, refused, encounter.parting, onward);
+            push_parted(text, scene, pair, refused, encounter.parting, onward);
         }
         Reason::ViewRead => {
-            push_opened(account, scene, pair, refused, encounter.outstanding);
+            push_opened(text, scene, pair, refused, encounter.outstanding);
         },
         Reason::Unset => {}
     }
@@ -95,43 +95,43 @@ pub(crate) fn push_where(
 
 /// Adds what would order the two of one of several races that part at one spawn, where it is not told of all of them.
 pub(crate) fn push_own_help(
-    account: &mut Account,
+    text: &mut TextBuilder,
     scene: &Scene<'_, '_>,
     pair: &Pair,
     encounter: &Encounter,
 )
-    ensures { Adds account.old (help_note (setting_of scene.now) (own_help_of pair.now.lines.reason (setting_of scene.now) pair.now encounter.now)) account.new }
+    ensures { Adds text.old (help_note (setting_of scene.now) (own_help_of pair.now.lines.reason (setting_of scene.now) pair.now encounter.now)) text.new }
 {
     match pair.lines.reason {
         Reason::Race { .. } => {}
         Reason::ViewRead => {
             let refused = encounter.refused.strand;
-            push_move_note(account, scene, pair, refused, encounter.outstanding);
+            push_move_note(text, scene, pair, refused, encounter.outstanding);
         },
-        Reason::Unset => push_put_note(account, scene),
+        Reason::Unset => push_put_note(text, scene),
     }
 }
 
 /// Adds what orders the two.
 pub(crate) fn push_help(
-    account: &mut Account,
+    text: &mut TextBuilder,
     scene: &Scene<'_, '_>,
     pair: &Pair,
     encounter: &Encounter,
     is_sure: bool,
 )
-    ensures { Adds account.old (help_note (setting_of scene.now) (help_of pair.now.lines.reason (setting_of scene.now) pair.now encounter.now is_sure)) account.new }
+    ensures { Adds text.old (help_note (setting_of scene.now) (help_of pair.now.lines.reason (setting_of scene.now) pair.now encounter.now is_sure)) text.new }
 {
     match pair.lines.reason {
         Reason::Race { .. } => {
             let onward = line_of(scene, encounter.onward.unwrap_or(0));
-            push_sync_note(account, scene, onward, is_sure, encounter.parting);
+            push_sync_note(text, scene, onward, is_sure, encounter.parting);
         }
         Reason::ViewRead => {
             let refused = encounter.refused.strand;
-            push_move_note(account, scene, pair, refused, encounter.outstanding);
+            push_move_note(text, scene, pair, refused, encounter.outstanding);
         },
-        Reason::Unset => push_put_note(account, scene),
+        Reason::Unset => push_put_note(text, scene),
     }
 }
 
@@ -200,50 +200,50 @@ pub fn help_of(
 
 /// Adds where the two part, and what orders them.
 fn push_advice(
-    account: &mut Account,
+    text: &mut TextBuilder,
     scene: &Scene<'_, '_>,
     pair: &Pair,
     encounter: &Encounter,
     is_sure: bool,
 )
-    ensures { Adds account.old (advice_text pair.now.lines.reason (setting_of scene.now) pair.now encounter.now is_sure) account.new }
+    ensures { Adds text.old (advice_text pair.now.lines.reason (setting_of scene.now) pair.now encounter.now is_sure) text.new }
 {
-    push_where(account, scene, pair, encounter);
-    push_help(account, scene, pair, encounter, is_sure);
+    push_where(text, scene, pair, encounter);
+    push_help(text, scene, pair, encounter, is_sure);
 }
 
 /// Adds all that is told of a pair of lines.
 fn push_message(
     alloc: Global,
-    account: &mut Account,
+    text: &mut TextBuilder,
     scene: &Scene<'_, '_>,
     pair: &Pair,
     places: &[u32],
     encounter: &Encounter,
     is_sure: bool,
 )
-    ensures { Adds account.old (message (setting_of scene.now) pair.now places.now encounter.now is_sure) account.new }
+    ensures { Adds text.old (message (setting_of scene.now) pair.now places.now encounter.now is_sure) text.new }
 {
-    push_title(alloc, account, scene, pair, places);
-    push_earlier(account, scene, pair, encounter);
-    push_refused(account, scene, pair, encounter);
-    push_advice(account, scene, pair, encounter, is_sure);
-    account.push_words("\n");
+    push_title(alloc, text, scene, pair, places);
+    push_earlier(text, scene, pair, encounter);
+    push_refused(text, scene, pair, encounter);
+    push_advice(text, scene, pair, encounter, is_sure);
+    text.push_words("\n");
 }
 
 /// Adds all that is told of a race.
 pub(crate) fn push_case(
     alloc: Global,
-    account: &mut Account,
+    text: &mut TextBuilder,
     scene: &Scene<'_, '_>,
     case: &Case<'_>,
     is_sure: bool,
 )
-    ensures { Adds account.old (case_text (setting_of scene.now) case.now is_sure) account.new }
+    ensures { Adds text.old (case_text (setting_of scene.now) case.now is_sure) text.new }
 {
     push_message(
         alloc,
-        account,
+        text,
         scene,
         &case.race.pair,
         case.race.places.as_slice(),
@@ -253,44 +253,49 @@ pub(crate) fn push_case(
 }
 
 /// Adds where one of several races that part at one spawn does so, and what is not told of all of them.
-fn push_own_advice(account: &mut Account, scene: &Scene<'_, '_>, pair: &Pair, encounter: &Encounter)
-    ensures { Adds account.old (where_text pair.now.lines.reason (setting_of scene.now) pair.now encounter.now ++
-        help_note (setting_of scene.now) (own_help_of pair.now.lines.reason (setting_of scene.now) pair.now encounter.now)) account.new }
+fn push_own_advice(
+    text: &mut TextBuilder,
+    scene: &Scene<'_, '_>,
+    pair: &Pair,
+    encounter: &Encounter,
+)
+    ensures { Adds text.old (where_text pair.now.lines.reason (setting_of scene.now) pair.now encounter.now ++
+        help_note (setting_of scene.now) (own_help_of pair.now.lines.reason (setting_of scene.now) pair.now encounter.now)) text.new }
 {
-    push_where(account, scene, pair, encounter);
-    push_own_help(account, scene, pair, encounter);
+    push_where(text, scene, pair, encounter);
+    push_own_help(text, scene, pair, encounter);
 }
 
 /// Adds all that is told of one of several pairs that part at one spawn.
 fn push_member_message(
     alloc: Global,
-    account: &mut Account,
+    text: &mut TextBuilder,
     scene: &Scene<'_, '_>,
     pair: &Pair,
     places: &[u32],
     encounter: &Encounter,
 )
-    ensures { Adds account.old (member_message (setting_of scene.now) pair.now places.now encounter.now) account.new }
+    ensures { Adds text.old (member_message (setting_of scene.now) pair.now places.now encounter.now) text.new }
 {
-    push_title(alloc, account, scene, pair, places);
-    push_earlier(account, scene, pair, encounter);
-    push_refused(account, scene, pair, encounter);
-    push_own_advice(account, scene, pair, encounter);
-    account.push_words("\n");
+    push_title(alloc, text, scene, pair, places);
+    push_earlier(text, scene, pair, encounter);
+    push_refused(text, scene, pair, encounter);
+    push_own_advice(text, scene, pair, encounter);
+    text.push_words("\n");
 }
 
 /// Adds all that is told of one of several races that part at one spawn.
 pub(crate) fn push_member(
     alloc: Global,
-    account: &mut Account,
+    text: &mut TextBuilder,
     scene: &Scene<'_, '_>,
     case: &Case<'_>,
 )
-    ensures { Adds account.old (member_text (setting_of scene.now) case.now) account.new }
+    ensures { Adds text.old (member_text (setting_of scene.now) case.now) text.new }
 {
     push_member_message(
         alloc,
-        account,
+        text,
         scene,
         &case.race.pair,
         case.race.places.as_slice(),

@@ -3,17 +3,18 @@
 ghost use Rattle.std.specs.Prelude.{◌≡◌, ◌≤◌, ◌∷◌, ℕ, List, IfOk, map, string_bytes};
 ghost use Rattle.std.specs.Global.{Vec};
 ghost use Rattle.trace_notes.specs.Notes.{noted_text};
-ghost use Rattle.race_explanations.specs.Accounts.{Adds};
+ghost use Rattle.text_buffers.specs.Builders.{Adds};
 ghost use Rattle.race_explanations.specs.Scenes.{setting_of};
 ghost use Rattle.race_explanations.specs.Titles.{sort_word, reason_words, name_of_place, noted_name, told_name, spaced_name, other_names};
 ghost use Rattle.race_explanations.specs.Titles.{listed_names, told_names, name_count, most_names, left_out, names_text, headline, heading, title_text};
 
-use crate::account::Account;
 use crate::scene::{Origin, Scene};
 use access_table::word;
 use race_pairs::{Pair, Reason};
+use source_quotes::{Paint, push_count, push_painted, push_place};
 use std::alloc::{AllocError, Global};
 use std::collections::BTreeSet;
+use text_buffers::TextBuilder;
 use trace_notes::Notes;
 use trace_text::{put_cell, put_word, reducer_name};
 
@@ -29,18 +30,18 @@ pub(crate) fn sort_word(reason: Reason) -> &'static str
 }
 
 /// Adds what was wrong.
-pub(crate) fn push_reason(account: &mut Account, reason: Reason)
-    ensures { Adds account.old (reason_words reason) account.new }
+pub(crate) fn push_reason(text: &mut TextBuilder, reason: Reason)
+    ensures { Adds text.old (reason_words reason) text.new }
 {
     match reason {
         Reason::Race { earlier, refused } => {
-            account.push_words(word(earlier));
-            account.push_words("-");
-            account.push_words(word(refused));
-            account.push_words(" on");
+            text.push_words(word(earlier));
+            text.push_words("-");
+            text.push_words(word(refused));
+            text.push_words(" on");
         }
-        Reason::ViewRead => account.push_words("reads with other peers of"),
-        Reason::Unset => account.push_words("nothing was put before into"),
+        Reason::ViewRead => text.push_words("reads with other peers of"),
+        Reason::Unset => text.push_words("nothing was put before into"),
     }
 }
 
@@ -65,75 +66,75 @@ fn spaced_name(
 }
 
 /// Adds what the notes of a trace say of a name, or the name.
-fn push_noted(account: &mut Account, notes: &Notes<Global>, name: &str)
-    ensures { Adds account.old (noted_name (noted_text notes.now name.now) name.now) account.new }
+fn push_noted(text: &mut TextBuilder, notes: &Notes<Global>, name: &str)
+    ensures { Adds text.old (noted_name (noted_text notes.now name.now) name.now) text.new }
 {
     match notes.text_of(name) {
-        Some(text) => account.push_words(text),
-        None => account.push_words(name),
+        Some(noted) => text.push_words(noted),
+        None => text.push_words(name),
     }
 }
 
 /// Adds what a name behind a space is told as.
-fn push_display_name(account: &mut Account, scene: &Scene<'_, '_>, spaced: &str)
-    ensures { (name : List ℕ) → spaced.now ≡ 32 ∷ name → Adds account.old (32 ∷ told_name (setting_of scene.now).origin name) account.new }
+fn push_display_name(text: &mut TextBuilder, scene: &Scene<'_, '_>, spaced: &str)
+    ensures { (name : List ℕ) → spaced.now ≡ 32 ∷ name → Adds text.old (32 ∷ told_name (setting_of scene.now).origin name) text.new }
 {
     match (&scene.origin, spaced.split_once(' ')) {
         (Origin::Trace { notes }, Some((_, name))) => {
-            account.push_words(" ");
-            push_noted(account, notes, name);
+            text.push_words(" ");
+            push_noted(text, notes, name);
         }
-        _ => account.push_words(spaced),
+        _ => text.push_words(spaced),
     }
 }
 
 /// Adds a space and what the name of what a refusal was about is told as.
 fn push_name(
     alloc: Global,
-    account: &mut Account,
+    text: &mut TextBuilder,
     scene: &Scene<'_, '_>,
     reason: Reason,
     place: u32,
 )
-    ensures { Adds account.old (spaced_name (setting_of scene.now) reason place) account.new }
+    ensures { Adds text.old (spaced_name (setting_of scene.now) reason place) text.new }
 {
     match spaced_name(alloc, scene, reason, place) {
-        Ok(name) => push_display_name(account, scene, name.as_str()),
-        Err(_) => account.fail(),
+        Ok(name) => push_display_name(text, scene, name.as_str()),
+        Err(_) => text.fail(),
     }
 }
 
 /// Adds names behind the first.
 fn push_others(
     alloc: Global,
-    account: &mut Account,
+    text: &mut TextBuilder,
     scene: &Scene<'_, '_>,
     reason: Reason,
     places: &[u32],
 )
-    ensures { Adds account.old (other_names (setting_of scene.now) reason places.now) account.new }
+    ensures { Adds text.old (other_names (setting_of scene.now) reason places.now) text.new }
 {
     for place in places {
-        account.push_words(",");
-        push_name(alloc, account, scene, reason, *place);
+        text.push_words(",");
+        push_name(alloc, text, scene, reason, *place);
     }
 }
 
 /// Adds names.
 pub(crate) fn push_list(
     alloc: Global,
-    account: &mut Account,
+    text: &mut TextBuilder,
     scene: &Scene<'_, '_>,
     reason: Reason,
     places: &[u32],
 )
-    ensures { Adds account.old (listed_names (setting_of scene.now) reason places.now) account.new }
+    ensures { Adds text.old (listed_names (setting_of scene.now) reason places.now) text.new }
 {
     let Some((first, others)) = places.split_first() else {
         return;
     };
-    push_name(alloc, account, scene, reason, *first);
-    push_others(alloc, account, scene, reason, others);
+    push_name(alloc, text, scene, reason, *first);
+    push_others(alloc, text, scene, reason, others);
 }
 
 /// What the name of what a refusal was about is told as, behind a space.
@@ -145,9 +146,9 @@ fn display_name(
 ) -> Result<Vec<u8>, AllocError>
     ensures { IfOk result (λ name. name.items ≡ spaced_name (setting_of scene.now) reason place) }
 {
-    let mut account = Account::new(alloc);
-    push_name(alloc, &mut account, scene, reason, place);
-    account.end()
+    let mut text = TextBuilder::new(alloc);
+    push_name(alloc, &mut text, scene, reason, place);
+    text.end()
 }
 
 /// What the places are told as, each once.
@@ -196,74 +197,74 @@ fn most_names(scene: &Scene<'_, '_>) -> usize
 }
 
 /// Adds how many names are left out.
-pub(crate) fn push_left_out(account: &mut Account, most: usize, count: usize)
-    ensures { Adds account.old (left_out most count) account.new }
+pub(crate) fn push_left_out(text: &mut TextBuilder, most: usize, count: usize)
+    ensures { Adds text.old (left_out most count) text.new }
 {
     if count <= most {
         return;
     }
-    account.push_number(" and ", (count - most) as u64);
-    account.push_words(" more");
+    text.push_number(" and ", (count - most) as u64);
+    text.push_words(" more");
 }
 
 /// Adds how many names are left out.
 fn push_rest(
     alloc: Global,
-    account: &mut Account,
+    text: &mut TextBuilder,
     scene: &Scene<'_, '_>,
     reason: Reason,
     places: &[u32],
     most: usize,
 )
-    ensures { Adds account.old (left_out most (name_count (setting_of scene.now).origin (setting_of scene.now) reason places.now)) account.new }
+    ensures { Adds text.old (left_out most (name_count (setting_of scene.now).origin (setting_of scene.now) reason places.now)) text.new }
 {
     match name_count(alloc, scene, reason, places) {
-        Ok(count) => push_left_out(account, most, count),
-        Err(_) => account.fail(),
+        Ok(count) => push_left_out(text, most, count),
+        Err(_) => text.fail(),
     }
 }
 
 /// Adds the names of some, and how many more there are.
 fn push_names(
     alloc: Global,
-    account: &mut Account,
+    text: &mut TextBuilder,
     scene: &Scene<'_, '_>,
     reason: Reason,
     places: &[u32],
 )
-    ensures { Adds account.old (names_text (setting_of scene.now) reason places.now) account.new }
+    ensures { Adds text.old (names_text (setting_of scene.now) reason places.now) text.new }
 {
     let most = most_names(scene);
     let (told, _) = places.split_at(places.len().min(most));
-    push_list(alloc, account, scene, reason, told);
-    push_rest(alloc, account, scene, reason, places, most);
+    push_list(alloc, text, scene, reason, told);
+    push_rest(alloc, text, scene, reason, places, most);
 }
 
 /// Adds the kind of the race, what it was on, and how often it came.
 fn push_headline(
     alloc: Global,
-    account: &mut Account,
+    text: &mut TextBuilder,
     scene: &Scene<'_, '_>,
     pair: &Pair,
     places: &[u32],
 )
-    ensures { Adds account.old (headline (setting_of scene.now) pair.now places.now) account.new }
+    ensures { Adds text.old (headline (setting_of scene.now) pair.now places.now) text.new }
 {
     let reason = pair.lines.reason;
-    account.push_red(scene, sort_word(reason));
-    account.push_words(": ");
-    push_reason(account, reason);
-    push_names(alloc, account, scene, reason, places);
-    account.push_words(", ");
-    account.push_count(pair.times, "time");
+    push_painted(text, scene.look, Paint::Red, sort_word(reason));
+    text.push_words(": ");
+    push_reason(text, reason);
+    push_names(alloc, text, scene, reason, places);
+    text.push_words(", ");
+    push_count(text, pair.times, "time");
 }
 
 /// Adds where a program's line is; a place of a trace is told with the access.
-fn push_heading(account: &mut Account, scene: &Scene<'_, '_>, line: u32)
-    ensures { Adds account.old (heading scene.now.look (setting_of scene.now).origin line) account.new }
+fn push_heading(text: &mut TextBuilder, scene: &Scene<'_, '_>, line: u32)
+    ensures { Adds text.old (heading scene.now.look (setting_of scene.now).origin line) text.new }
 {
     match &scene.origin {
-        Origin::Program { file, .. } => account.push_place(scene.look, file, line),
+        Origin::Program { file, .. } => push_place(text, scene.look, file, line),
         Origin::Trace { .. } => {}
     }
 }
@@ -271,14 +272,14 @@ fn push_heading(account: &mut Account, scene: &Scene<'_, '_>, line: u32)
 /// Adds the kind of the race, what it was on, how often it came, and where.
 pub(crate) fn push_title(
     alloc: Global,
-    account: &mut Account,
+    text: &mut TextBuilder,
     scene: &Scene<'_, '_>,
     pair: &Pair,
     places: &[u32],
 )
-    ensures { Adds account.old (title_text (setting_of scene.now) pair.now places.now) account.new }
+    ensures { Adds text.old (title_text (setting_of scene.now) pair.now places.now) text.new }
 {
-    push_headline(alloc, account, scene, pair, places);
-    account.push_words("\n");
-    push_heading(account, scene, pair.lines.line);
+    push_headline(alloc, text, scene, pair, places);
+    text.push_words("\n");
+    push_heading(text, scene, pair.lines.line);
 }

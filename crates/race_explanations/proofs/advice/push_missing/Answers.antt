@@ -1,6 +1,6 @@
 use Rattle.std.proofs.Common.{rules, ap, ◌∙◌}
 use Rattle.race_explanations.specs.Advice.{order_words}
-use Rattle.race_explanations.proofs.Accounts.{these, two_adds}
+use Rattle.text_buffers.proofs.Builders.{these, two_adds}
 use Rattle.race_explanations.proofs.advice.push_missing.Goals as goal
 
 pub returns : goal.returns

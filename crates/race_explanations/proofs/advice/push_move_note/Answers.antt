@@ -1,7 +1,7 @@
 use Rattle.std.proofs.Common.{ap₂}
 use Rattle.race_explanations.specs.Scenes.{setting_of}
 use Rattle.race_explanations.specs.Advice.{move_help}
-use Rattle.race_explanations.proofs.Accounts.{these, three_adds}
+use Rattle.text_buffers.proofs.Builders.{these, three_adds}
 use Rattle.race_explanations.proofs.advice.push_move_note.Goals as goal
 
 pub returns-in-Some : goal.returns-in-Some

@@ -2,7 +2,7 @@ use Rattle.std.proofs.Common.{ap}
 use Rattle.race_explanations.specs.Scenes.{setting_of}
 use Rattle.race_explanations.specs.Paths.{line_words}
 use Rattle.race_explanations.specs.Advice.{function_word}
-use Rattle.race_explanations.proofs.Accounts.{these, two_adds, three_adds, five_adds}
+use Rattle.text_buffers.proofs.Builders.{these, two_adds, three_adds, five_adds}
 use Rattle.race_explanations.proofs.advice.push_parts.Goals as goal
 
 pub returns : goal.returns

@@ -1,4 +1,4 @@
-use Rattle.race_explanations.proofs.Accounts.{these, three_adds}
+use Rattle.text_buffers.proofs.Builders.{these, three_adds}
 use Rattle.race_explanations.proofs.advice.push_put_note.Goals as goal
 
 pub returns : goal.returns

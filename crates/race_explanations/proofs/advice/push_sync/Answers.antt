@@ -1,4 +1,4 @@
-use Rattle.race_explanations.proofs.Accounts.{three_adds}
+use Rattle.text_buffers.proofs.Builders.{three_adds}
 use Rattle.race_explanations.proofs.advice.push_sync.Goals as goal
 
 pub returns : goal.returns

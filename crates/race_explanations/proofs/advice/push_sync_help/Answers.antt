@@ -1,7 +1,7 @@
 use Rattle.std.proofs.Common.{rules, ◌==◌}
 use Rattle.race_explanations.specs.Scenes.{setting_of}
 use Rattle.race_explanations.specs.Advice.{missing_help}
-use Rattle.race_explanations.proofs.Accounts.{these, then_adds}
+use Rattle.text_buffers.proofs.Builders.{these, then_adds}
 use Rattle.race_explanations.proofs.advice.push_sync_help.Goals as goal
 
 pub returns-then-line-onward : goal.returns-then-line-onward

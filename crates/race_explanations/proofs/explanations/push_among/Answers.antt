@@ -1,4 +1,4 @@
-use Rattle.race_explanations.proofs.Accounts.{these, two_adds, five_adds}
+use Rattle.text_buffers.proofs.Builders.{these, two_adds, five_adds}
 use Rattle.race_explanations.proofs.explanations.push_among.Goals as goal
 
 pub returns : goal.returns

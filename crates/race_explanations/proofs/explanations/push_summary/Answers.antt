@@ -5,7 +5,7 @@ use Rattle.source_quotes.specs.Quotes.{counted}
 use Rattle.race_pairs.specs.Known.{known_count}
 use Rattle.race_explanations.specs.Scenes.{setting_of}
 use Rattle.race_explanations.specs.Explained.{among}
-use Rattle.race_explanations.proofs.Accounts.{these, two_adds}
+use Rattle.text_buffers.proofs.Builders.{these, two_adds}
 use Rattle.race_explanations.proofs.explanations.push_summary.Goals as goal
 
 pub returns : goal.returns

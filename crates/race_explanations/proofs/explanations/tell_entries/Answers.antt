@@ -7,8 +7,8 @@ use Rattle.race_explanations.specs.Scenes.{setting_of}
 use Rattle.race_explanations.specs.Extents.{most_pairs, most_shown}
 use Rattle.race_explanations.specs.Groups.{groups_text}
 use Rattle.race_explanations.specs.Explained.{pairs_left_out, summary}
-use Rattle.race_explanations.proofs.Accounts.{these, three_adds}
-use Rattle.race_explanations.proofs.FindingTexts.{whole_text}
+use Rattle.text_buffers.proofs.Builders.{these, three_adds}
+use Rattle.text_buffers.proofs.Builders.{whole_text}
 use Rattle.race_explanations.proofs.explanations.tell_entries.Goals as goal
 
 pub returns : goal.returns
@@ -16,11 +16,11 @@ returns c =
     let setting = setting_of c.args.scene.now in
     let digest = c.args.scene.now.digest.now in
     let count = known_count digest.races.known in
-    IfOk-weaker c.end.result (λ told. c.push_summary.new.account ≡ Some told.items)
+    IfOk-weaker c.end.result (λ told. c.push_summary.new.text ≡ Some told.items)
     (λ told. (entries : List Entry) → IsDigest entries digest →
     told.items ≡ groups_text setting (most_shown c.args.extent) c.args.cases.now c.args.groups.now ++
     pairs_left_out setting.origin (most_pairs c.args.extent) count ++ summary setting.origin entries count)
-    (λ told is entries d. whole_text _ _ _ _ c.new-account.ensures
+    (λ told is entries d. whole_text _ _ _ _ c.new-text.ensures
     (three_adds _ _ _ _ _ _ _
     (these _ _ _ _ c.push_groups.ensures (ap (λ most. groups_text setting most c.args.cases.now c.args.groups.now) c.most_shown-shown.ensures))
     (these _ _ _ _ c.push_left_out.ensures (ap₂ (pairs_left_out setting.origin) c.most_pairs.ensures c.pair_count.ensures))

@@ -1,5 +1,5 @@
 use Rattle.std.proofs.Common.{rules, ltb}
-use Rattle.race_explanations.proofs.Accounts.{then_adds, three_adds}
+use Rattle.text_buffers.proofs.Builders.{then_adds, three_adds}
 use Rattle.race_explanations.proofs.findings.tell_left_out.Goals as goal
 
 pub returns : goal.returns

@@ -2,11 +2,11 @@ use Rattle.std.proofs.Common.{rules, arith, ℕ, ◌≡◌, ap, ◌∙◌, get_o
 use Rattle.std.specs.Global.{Vec}
 use Rattle.std.proofs.lemmas.Grind.{common_steps}
 use Rattle.race_explanations.specs.FoundGroups.{found_group}
-use Rattle.race_explanations.proofs.Accounts.{these, none_adds, one_more}
+use Rattle.text_buffers.proofs.Builders.{these, none_adds, one_more}
 use Rattle.race_explanations.proofs.found_told.tell_each.Goals as goal
 
 pub loop-group-init : goal.loop-group-init
-loop-group-init c = none_adds c.args.account.now
+loop-group-init c = none_adds c.args.text.now
 
 pub loop-group-preserved : goal.loop-group-preserved
 loop-group-preserved c =

@@ -1,6 +1,6 @@
 use Rattle.std.proofs.Common.{ap}
 use Rattle.race_explanations.specs.FoundGroups.{spawn_words}
-use Rattle.race_explanations.proofs.Accounts.{these, five_adds}
+use Rattle.text_buffers.proofs.Builders.{these, five_adds}
 use Rattle.race_explanations.proofs.found_told.tell_first.Goals as goal
 
 pub returns : goal.returns

@@ -1,6 +1,6 @@
 use Rattle.std.proofs.Common.{map, flat_map, ap, ◌∙◌}
 use Rattle.race_explanations.specs.FoundGroups.{found_group}
-use Rattle.race_explanations.proofs.Accounts.{these}
+use Rattle.text_buffers.proofs.Builders.{these}
 use Rattle.race_explanations.proofs.FoundGrouping.{items_of, each_of_map}
 use Rattle.race_explanations.proofs.found_told.tell_groups.Goals as goal
 

@@ -1,6 +1,6 @@
 use Rattle.std.proofs.Common.{ap, length}
 use Rattle.race_explanations.specs.FoundGroups.{found_first, found_rounds, found_sync}
-use Rattle.race_explanations.proofs.Accounts.{these, four_adds}
+use Rattle.text_buffers.proofs.Builders.{these, four_adds}
 use Rattle.race_explanations.proofs.found_told.tell_head.Goals as goal
 
 pub returns : goal.returns

@@ -1,6 +1,6 @@
 use Rattle.std.proofs.Common.{rules, ◌≡◌, ◌∙◌, ap, min, length, take, flat_map}
 use Rattle.race_explanations.specs.FoundGroups.{found_member, found_behind}
-use Rattle.race_explanations.proofs.Accounts.{these, three_adds}
+use Rattle.text_buffers.proofs.Builders.{these, three_adds}
 use Rattle.race_explanations.proofs.Telling.{first_of_all}
 use Rattle.race_explanations.proofs.found_told.tell_many.Goals as goal
 

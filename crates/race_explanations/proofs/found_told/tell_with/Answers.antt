@@ -1,6 +1,6 @@
 use Rattle.std.proofs.Common.{rules, length}
 use Rattle.race_explanations.specs.Titles.{left_out}
-use Rattle.race_explanations.proofs.Accounts.{these, two_adds, five_adds}
+use Rattle.text_buffers.proofs.Builders.{these, two_adds, five_adds}
 use Rattle.race_explanations.proofs.found_told.tell_with.Goals as goal
 
 pub returns : goal.returns

@@ -1,5 +1,5 @@
 use Rattle.std.proofs.Common.{rules, ltb}
-use Rattle.race_explanations.proofs.Accounts.{these, then_adds, four_adds}
+use Rattle.text_buffers.proofs.Builders.{these, then_adds, four_adds}
 use Rattle.race_explanations.proofs.group.push_behind.Goals as goal
 
 pub returns : goal.returns

@@ -1,4 +1,4 @@
-use Rattle.race_explanations.proofs.Accounts.{five_adds}
+use Rattle.text_buffers.proofs.Builders.{five_adds}
 use Rattle.race_explanations.proofs.group.push_beside.Goals as goal
 
 pub returns-in-Some : goal.returns-in-Some

@@ -1,4 +1,4 @@
-use Rattle.race_explanations.proofs.Accounts.{these, two_adds, five_adds}
+use Rattle.text_buffers.proofs.Builders.{these, two_adds, five_adds}
 use Rattle.race_explanations.proofs.group.push_first_line.Goals as goal
 
 pub returns : goal.returns

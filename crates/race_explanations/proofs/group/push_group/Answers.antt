@@ -1,7 +1,7 @@
 use Rattle.std.proofs.Common.{false, ap}
 use Rattle.race_explanations.specs.Scenes.{setting_of}
 use Rattle.race_explanations.specs.Groups.{alone_text, text_at_line}
-use Rattle.race_explanations.proofs.Accounts.{these}
+use Rattle.text_buffers.proofs.Builders.{these}
 use Rattle.race_explanations.proofs.group.push_group.Goals as goal
 
 pub returns-in-Some : goal.returns-in-Some

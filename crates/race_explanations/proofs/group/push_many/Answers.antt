@@ -1,7 +1,7 @@
 use Rattle.std.proofs.Common.{rules, ◌≡◌, ◌∙◌, ap, min, length, take}
 use Rattle.race_explanations.specs.Scenes.{setting_of}
 use Rattle.race_explanations.specs.Groups.{head_text, members_text, behind_text}
-use Rattle.race_explanations.proofs.Accounts.{these, three_adds}
+use Rattle.text_buffers.proofs.Builders.{these, three_adds}
 use Rattle.race_explanations.proofs.Telling.{first_of_all}
 use Rattle.race_explanations.proofs.group.push_many.Goals as goal
 

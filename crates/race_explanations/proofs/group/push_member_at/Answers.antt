@@ -2,7 +2,7 @@ use Rattle.std.proofs.Common.{◌≡◌, ◌≤◌, [], length, sym, ap}
 use Rattle.std.proofs.lemmas.Option.{slice_get_past}
 use Rattle.race_explanations.specs.Scenes.{setting_of}
 use Rattle.race_explanations.specs.Groups.{member_of, member_at}
-use Rattle.race_explanations.proofs.Accounts.{these, none_adds}
+use Rattle.text_buffers.proofs.Builders.{these, none_adds}
 use Rattle.race_explanations.proofs.group.push_member_at.Goals as goal
 
 pub returns-in-None : goal.returns-in-None
@@ -10,4 +10,4 @@ returns-in-None c =
     let beyond : length c.args.cases.now ≤ c.args.place = rw c.in-None.is at c.get.ensures.lookup.3 in
     let none : member_at (setting_of c.args.scene.now) c.args.cases.now c.args.place ≡ [] =
     ap (member_of (setting_of c.args.scene.now)) (slice_get_past c.args.cases.now c.args.place beyond) in
-    these _ _ _ _ (none_adds c.args.account.now) (sym none)
+    these _ _ _ _ (none_adds c.args.text.now) (sym none)

@@ -1,6 +1,6 @@
 use Rattle.std.proofs.Common.{rules, false}
 use Rattle.race_explanations.specs.Groups.{has_round}
-use Rattle.race_explanations.proofs.Accounts.{then_adds}
+use Rattle.text_buffers.proofs.Builders.{then_adds}
 use Rattle.race_explanations.proofs.group.push_rounds_of.Goals as goal
 
 pub returns-then-has_round : goal.returns-then-has_round

@@ -1,7 +1,7 @@
 use Rattle.std.proofs.Common.{ap}
 use Rattle.race_explanations.specs.Scenes.{setting_of}
 use Rattle.race_explanations.specs.Advice.{sync_note}
-use Rattle.race_explanations.proofs.Accounts.{these}
+use Rattle.text_buffers.proofs.Builders.{these}
 use Rattle.race_explanations.proofs.group.push_sync_of.Goals as goal
 
 pub returns-in-Some : goal.returns-in-Some

@@ -1,7 +1,7 @@
 use Rattle.std.proofs.Common.{ℕ, ◌++◌, codes, ap, ◌∙◌}
 use Rattle.source_quotes.specs.Quotes.{place, marked}
 use Rattle.race_explanations.specs.Illegal.{at_of, error_title}
-use Rattle.race_explanations.proofs.Accounts.{these, two_adds}
+use Rattle.text_buffers.proofs.Builders.{these, two_adds}
 use Rattle.race_explanations.proofs.illegal.push_illegal.Goals as goal
 
 pub returns : goal.returns

@@ -1,4 +1,4 @@
-use Rattle.race_explanations.proofs.Accounts.{two_adds}
+use Rattle.text_buffers.proofs.Builders.{two_adds}
 use Rattle.race_explanations.proofs.message.push_advice.Goals as goal
 
 pub returns : goal.returns

@@ -1,7 +1,7 @@
 use Rattle.std.proofs.Common.{ap}
 use Rattle.race_explanations.specs.Scenes.{setting_of}
 use Rattle.race_explanations.specs.Messages.{message}
-use Rattle.race_explanations.proofs.Accounts.{these}
+use Rattle.text_buffers.proofs.Builders.{these}
 use Rattle.race_explanations.proofs.message.push_case.Goals as goal
 
 pub returns : goal.returns

@@ -1,4 +1,4 @@
-use Rattle.race_explanations.proofs.Accounts.{five_adds}
+use Rattle.text_buffers.proofs.Builders.{five_adds}
 use Rattle.race_explanations.proofs.message.push_member_message.Goals as goal
 
 pub returns : goal.returns

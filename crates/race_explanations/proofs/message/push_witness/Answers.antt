@@ -1,7 +1,7 @@
 use Rattle.std.proofs.Common.{ap}
 use Rattle.race_explanations.specs.Scenes.{setting_of}
 use Rattle.race_explanations.specs.Paths.{chain_text}
-use Rattle.race_explanations.proofs.Accounts.{these, four_adds}
+use Rattle.text_buffers.proofs.Builders.{these, four_adds}
 use Rattle.race_explanations.proofs.message.push_witness.Goals as goal
 
 pub returns : goal.returns

@@ -1,7 +1,7 @@
 use Rattle.std.proofs.Common.{ap}
 use Rattle.race_explanations.specs.Scenes.{setting_of}
 use Rattle.race_explanations.specs.Paths.{shown_line, shown_within}
-use Rattle.race_explanations.proofs.Accounts.{these, four_adds}
+use Rattle.text_buffers.proofs.Builders.{these, four_adds}
 use Rattle.race_explanations.proofs.paths.push_access.Goals as goal
 
 pub returns : goal.returns

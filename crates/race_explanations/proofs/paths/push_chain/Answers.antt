@@ -2,7 +2,7 @@ use Rattle.std.proofs.Common.{rules, arith, ap, ◌≡◌, take}
 use Rattle.std.proofs.lemmas.Grind.{common_steps}
 use Rattle.race_explanations.specs.Scenes.{setting_of}
 use Rattle.race_explanations.specs.Paths.{links_text}
-use Rattle.race_explanations.proofs.Accounts.{these, two_adds}
+use Rattle.text_buffers.proofs.Builders.{these, two_adds}
 use Rattle.race_explanations.proofs.paths.push_chain.Goals as goal
 
 pub returns : goal.returns

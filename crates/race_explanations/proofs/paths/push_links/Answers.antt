@@ -2,11 +2,11 @@ use Rattle.std.proofs.Common.{rules, arith}
 use Rattle.std.proofs.lemmas.Grind.{common_steps}
 use Rattle.race_explanations.specs.Scenes.{setting_of}
 use Rattle.race_explanations.specs.Paths.{link_text}
-use Rattle.race_explanations.proofs.Accounts.{none_adds, one_more}
+use Rattle.text_buffers.proofs.Builders.{none_adds, one_more}
 use Rattle.race_explanations.proofs.paths.push_links.Goals as goal
 
 pub loop-link-init : goal.loop-link-init
-loop-link-init c = none_adds c.args.account.now
+loop-link-init c = none_adds c.args.text.now
 
 pub loop-link-preserved : goal.loop-link-preserved
 loop-link-preserved c =

@@ -1,4 +1,4 @@
-use Rattle.race_explanations.proofs.Accounts.{three_adds, five_adds}
+use Rattle.text_buffers.proofs.Builders.{three_adds, five_adds}
 use Rattle.race_explanations.proofs.paths.push_placed.Goals as goal
 
 pub returns : goal.returns

@@ -2,7 +2,7 @@ use Rattle.std.proofs.Common.{rules, ◌≡◌, ◌∷◌, ◌==◌, ◌∙◌, 
 use Rattle.std.specs.List.{after_first}
 use Rattle.trace_notes.specs.Notes.{noted_text}
 use Rattle.race_explanations.specs.Titles.{noted_name}
-use Rattle.race_explanations.proofs.Accounts.{these, two_adds}
+use Rattle.text_buffers.proofs.Builders.{these, two_adds}
 use Rattle.race_explanations.proofs.title.push_display_name.Goals as goal
 
 pub returns-in-Trace-Some : goal.returns-in-Trace-Some

@@ -2,11 +2,11 @@ use Rattle.std.proofs.Common.{rules, arith, ◌++◌, codes}
 use Rattle.std.proofs.lemmas.Grind.{common_steps}
 use Rattle.race_explanations.specs.Scenes.{setting_of}
 use Rattle.race_explanations.specs.Titles.{spaced_name}
-use Rattle.race_explanations.proofs.Accounts.{none_adds, one_more, two_adds}
+use Rattle.text_buffers.proofs.Builders.{none_adds, one_more, two_adds}
 use Rattle.race_explanations.proofs.title.push_others.Goals as goal
 
 pub loop-place-init : goal.loop-place-init
-loop-place-init c = none_adds c.args.account.now
+loop-place-init c = none_adds c.args.text.now
 
 pub loop-place-preserved : goal.loop-place-preserved
 loop-place-preserved c =

@@ -2,7 +2,7 @@ use Rattle.std.proofs.Common.{rules, ◌≡◌, ◌∙◌, ap, ap₂, min, lengt
 use Rattle.race_explanations.specs.Extents.{most_pairs, most_shown}
 use Rattle.race_explanations.specs.FoundGroups.{found_groups_text}
 use Rattle.race_explanations.specs.Findings.{findings_left_out}
-use Rattle.race_explanations.proofs.Accounts.{these, four_adds}
+use Rattle.text_buffers.proofs.Builders.{these, four_adds}
 use Rattle.race_explanations.proofs.Telling.{first_of_all}
 use Rattle.race_explanations.proofs.findings.Findings.tell_races.Goals as goal
 

@@ -1,4 +1,4 @@
-use Rattle.race_explanations.proofs.Accounts.{four_adds}
+use Rattle.text_buffers.proofs.Builders.{four_adds}
 use Rattle.race_explanations.proofs.findings.Findings.tell_requests.Goals as goal
 
 pub returns : goal.returns

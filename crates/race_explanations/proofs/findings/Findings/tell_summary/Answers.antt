@@ -1,6 +1,6 @@
 use Rattle.std.proofs.Common.{rules, length}
 use Rattle.race_explanations.specs.Findings.{at_pairs}
-use Rattle.race_explanations.proofs.Accounts.{these, four_adds}
+use Rattle.text_buffers.proofs.Builders.{these, four_adds}
 use Rattle.race_explanations.proofs.findings.Findings.tell_summary.Goals as goal
 
 pub returns : goal.returns
