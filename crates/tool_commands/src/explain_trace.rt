@@ -33,7 +33,7 @@ use race_pairs::Digest;
 use race_records::{Outcome as Ending, RecordForm, illegal_record, trace_record};
 use source_quotes::{Meant, push_count};
 use std::alloc::{AllocError, Allocator, Global};
-use text_buffers::push_words;
+use text_buffers::{TextBuilder, push_words};
 use text_words::TextFault;
 use trace_notes::Notes;
 use trace_text::Trace;
@@ -49,12 +49,12 @@ fn clean_words() -> &'static str
 fn explain_clean(alloc: Global, count: usize) -> Result<Vec<u8>, AllocError>
     ensures { IfOk result (λ told. told.items ≡ clean_trace_words ++ judged_text count) }
 {
-    let mut told = Vec::new(alloc);
-    push_words(&mut told, clean_words())?;
-    push_words(&mut told, "judged: ")?;
-    push_count(&mut told, count, "request")?;
-    push_words(&mut told, "\n")?;
-    Ok(told)
+    let mut told = TextBuilder::new(alloc);
+    told.push_words(clean_words());
+    told.push_words("judged: ");
+    push_count(&mut told, count, "request");
+    told.push_words("\n");
+    told.end()
 }
 
 /// What a person is told of the entries of a trace.
