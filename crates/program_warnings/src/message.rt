@@ -1,15 +1,12 @@
 //! What is told of the warnings of a program.
 
-ghost use Rattle.std.specs.Prelude.{◌≡◌, ◌++◌, ℕ, List, IfOk, OnOk, codes, decimal, slice_get};
+ghost use Rattle.std.specs.Prelude.{◌≡◌, ◌++◌, ℕ, List, IfOk, codes, decimal, slice_get};
 ghost use Rattle.std.specs.Ordering.{nat_cmp};
 ghost use Rattle.std.specs.BTreeMap.{get};
 ghost use Rattle.text_words.specs.Text.{lines};
 ghost use Rattle.program_text.specs.Programs.{contents};
-ghost use Rattle.source_quotes.specs.Lines.{line_in};
-ghost use Rattle.source_quotes.specs.Quotes.{look_of, painted, place, quote};
-ghost use Rattle.source_quotes.specs.Parts.{IsWithin, sign_below};
-ghost use Rattle.source_quotes.specs.declared.look.Paint.TheVariants.{Yellow};
-ghost use Rattle.program_warnings.specs.Messages.{register_in, name_in, reducer_in, sort_word, line_of_warning, title, warning_text};
+ghost use Rattle.text_buffers.specs.Builders.{Adds};
+ghost use Rattle.program_warnings.specs.Messages.{register_in, name_in, reducer_in, sort_word, line_of_warning, title};
 ghost use Rattle.program_warnings.specs.Messages.{TellsWarning, TellsEach, more_text, TellsFirst, AreWarnings, TellsWarnings};
 
 use crate::declarations::{Declared, Sort, declarations};
@@ -18,11 +15,11 @@ use crate::reach::mark_reached;
 use crate::warning::{Warning, Wraps, warnings_of};
 use program_text::{Function, Program};
 use source_quotes::{
-    Look, Paint, Part, Source, Span, push_count, push_painted, push_place, push_quote,
-    push_sign_below, span_of, statement_of,
+    Look, Paint, Part, Source, push_count, push_painted, push_place, push_quote, push_sign_below,
+    span_of, statement_of,
 };
 use std::alloc::{AllocError, Global};
-use text_buffers::{push_number, push_words};
+use text_buffers::TextBuilder;
 use text_words::Reducer;
 
 /// The most warnings that are told with their lines.
@@ -72,70 +69,45 @@ fn sort_word(sort: Sort) -> &'static str
 }
 
 /// Adds words behind others.
-fn push_three(text: &mut Vec<u8>, first: &str, second: &str, third: &str) -> Result<(), AllocError>
-    ensures { OnOk result (text.new.items ≡ text.old.items ++ (first.now ++ second.now ++ third.now)) }
+fn push_three(text: &mut TextBuilder, first: &str, second: &str, third: &str)
+    ensures { Adds text.old (first.now ++ second.now ++ third.now) text.new }
 {
-    push_words(text, first)?;
-    push_words(text, second)?;
-    push_words(text, third)
+    text.push_words(first);
+    text.push_words(second);
+    text.push_words(third);
 }
 
 /// Adds that a register bears a name that is declared.
-fn push_register(text: &mut Vec<u8>, name: &str, declared: Declared) -> Result<(), AllocError>
-    ensures { OnOk result (text.new.items ≡ text.old.items ++ (codes "`" ++ name.now ++ codes "` is a register here, and a " ++ sort_word declared.sort ++
-        (codes " by the declaration at line " ++ decimal declared.line))) }
+fn push_register(text: &mut TextBuilder, name: &str, declared: Declared)
+    ensures { Adds text.old (codes "`" ++ name.now ++ codes "` is a register here, and a " ++ sort_word declared.sort ++
+        (codes " by the declaration at line " ++ decimal declared.line)) text.new }
 {
-    push_three(text, "`", name, "` is a register here, and a ")?;
-    push_words(text, sort_word(declared.sort))?;
-    push_number(
-        text,
-        " by the declaration at line ",
-        u64::from(declared.line),
-    )?;
-    Ok(())
+    push_three(text, "`", name, "` is a register here, and a ");
+    text.push_words(sort_word(declared.sort));
+    text.push_number(" by the declaration at line ", u64::from(declared.line));
 }
 
 /// Adds that an index wraps.
-fn push_wrapped(text: &mut Vec<u8>, index: u64, length: u32) -> Result<(), AllocError>
-    ensures { OnOk result (text.new.items ≡ text.old.items ++ ((codes "the index " ++ decimal index) ++
-        (codes " wraps at the length of the array, " ++ decimal length))) }
+fn push_wrapped(text: &mut TextBuilder, index: u64, length: u32)
+    ensures { Adds text.old ((codes "the index " ++ decimal index) ++ (codes " wraps at the length of the array, " ++ decimal length)) text.new }
 {
-    push_number(text, "the index ", index)?;
-    push_number(
-        text,
-        " wraps at the length of the array, ",
-        u64::from(length),
-    )?;
-    Ok(())
+    text.push_number("the index ", index);
+    text.push_number(" wraps at the length of the array, ", u64::from(length));
 }
 
 /// Adds that an index wraps in a run.
-fn push_wrapped_in_run(
-    text: &mut Vec<u8>,
-    function: &str,
-    index: u64,
-    length: u32,
-) -> Result<(), AllocError>
-    ensures { OnOk result (text.new.items ≡ text.old.items ++ (codes "in this run, the index in `" ++ function.now ++ codes "`" ++
-        (codes " is " ++ decimal index) ++ (codes " and wraps at the length of the array, " ++ decimal length))) }
+fn push_wrapped_in_run(text: &mut TextBuilder, function: &str, index: u64, length: u32)
+    ensures { Adds text.old (codes "in this run, the index in `" ++ function.now ++ codes "`" ++ (codes " is " ++ decimal index) ++
+        (codes " and wraps at the length of the array, " ++ decimal length)) text.new }
 {
-    push_three(text, "in this run, the index in `", function, "`")?;
-    push_number(text, " is ", index)?;
-    push_number(
-        text,
-        " and wraps at the length of the array, ",
-        u64::from(length),
-    )?;
-    Ok(())
+    push_three(text, "in this run, the index in `", function, "`");
+    text.push_number(" is ", index);
+    text.push_number(" and wraps at the length of the array, ", u64::from(length));
 }
 
 /// Adds what a warning is of.
-fn push_title(
-    text: &mut Vec<u8>,
-    program: &Program<Global>,
-    warning: Warning,
-) -> Result<(), AllocError>
-    ensures { OnOk result (text.new.items ≡ text.old.items ++ title (contents program.now) warning) }
+fn push_title(text: &mut TextBuilder, program: &Program<Global>, warning: Warning)
+    ensures { Adds text.old (title (contents program.now) warning) text.new }
 {
     let functions = program.functions.as_slice();
     match warning {
@@ -175,9 +147,9 @@ pub fn title_of_warning(
 ) -> Result<Vec<u8>, AllocError>
     ensures { IfOk result (λ told. told.items ≡ title (contents program.now) warning) }
 {
-    let mut told = Vec::new(alloc);
-    push_title(&mut told, program, warning)?;
-    Ok(told)
+    let mut told = TextBuilder::new(alloc);
+    push_title(&mut told, program, warning);
+    told.end()
 }
 
 /// The line that a warning is of.
@@ -211,75 +183,58 @@ fn part_of(warning: Warning, line: &[u8]) -> Part {
     }
 }
 
-/// Adds the warning's line, with a sign below a part of it.
-fn push_sign(
-    text: &mut Vec<u8>,
-    look: Look,
-    source: &Source<'_>,
-    number: u32,
-    span: Span,
-) -> Result<(), AllocError>
-    requires { IsWithin span (line_in source.now number) }
-    ensures { OnOk result (text.new.items ≡ text.old.items ++
-        (quote look source.now number ++ sign_below look Yellow (line_in source.now number) span 94 ++ codes "\n\n")) }
-{
-    push_quote(text, look, source, number)?;
-    push_sign_below(text, look, Paint::Yellow, source.line(number), span, b'^')?;
-    push_words(text, "\n\n")
-}
-
 /// Adds what is told of a warning.
 fn push_warning(
-    text: &mut Vec<u8>,
+    text: &mut TextBuilder,
     look: Look,
     file: &str,
     source: &Source<'_>,
     program: &Program<Global>,
     warning: Warning,
-) -> Result<(), AllocError>
-    ensures { OnOk result ((one : List ℕ) × (text.new.items ≡ text.old.items ++ one) × TellsWarning look file.now source.now (contents program.now) warning one) }
+)
+    ensures { (one : List ℕ) × Adds text.old one text.new × TellsWarning look file.now source.now (contents program.now) warning one }
 {
     let number = line_of_warning(warning);
     let line = source.line(number);
     let span = span_of(line, part_of(warning, line));
-    push_painted(text, look, Paint::Yellow, "warning")?;
-    push_words(text, ": ")?;
-    push_title(text, program, warning)?;
-    push_words(text, "\n")?;
-    push_place(text, look, file, number)?;
-    push_sign(text, look, source, number, span)?;
-    Ok(())
+    push_painted(text, look, Paint::Yellow, "warning");
+    text.push_words(": ");
+    push_title(text, program, warning);
+    text.push_words("\n");
+    push_place(text, look, file, number);
+    push_quote(text, look, source, number);
+    push_sign_below(text, look, Paint::Yellow, line, span, b'^');
+    text.push_words("\n\n");
 }
 
 /// Adds what is told of each warning.
 fn push_each(
-    text: &mut Vec<u8>,
+    text: &mut TextBuilder,
     look: Look,
     file: &str,
     source: &Source<'_>,
     program: &Program<Global>,
     warnings: &[Warning],
-) -> Result<(), AllocError>
-    ensures { OnOk result ((each : List ℕ) × (text.new.items ≡ text.old.items ++ each) × TellsEach look file.now source.now (contents program.now) warnings.now each) }
+)
+    ensures { (each : List ℕ) × Adds text.old each text.new × TellsEach look file.now source.now (contents program.now) warnings.now each }
 {
     let [warning, rest @ ..] = warnings else {
-        return Ok(());
+        return;
     };
-    push_warning(text, look, file, source, program, *warning)?;
-    push_each(text, look, file, source, program, rest)?;
-    Ok(())
+    push_warning(text, look, file, source, program, *warning);
+    push_each(text, look, file, source, program, rest);
 }
 
 /// Adds how many warnings are not told.
-fn push_more(text: &mut Vec<u8>, count: usize) -> Result<(), AllocError>
-    ensures { OnOk result (text.new.items ≡ text.old.items ++ more_text count) }
+fn push_more(text: &mut TextBuilder, count: usize)
+    ensures { Adds text.old (more_text count) text.new }
 {
     if count <= MOST_TOLD {
-        return Ok(());
+        return;
     }
-    push_words(text, "and ")?;
-    push_count(text, count - MOST_TOLD, "more warning")?;
-    push_words(text, "\n\n")
+    text.push_words("and ");
+    push_count(text, count - MOST_TOLD, "more warning");
+    text.push_words("\n\n");
 }
 
 /// What is told of these warnings.
@@ -294,10 +249,10 @@ fn tell_first(
     ensures { IfOk result (λ told. TellsFirst look file.now source.now (contents program.now) warnings.now told.items) }
 {
     let (first, _) = warnings.split_at(MOST_TOLD.min(warnings.len()));
-    let mut told = Vec::new(alloc);
-    push_each(&mut told, look, file, source, program, first)?;
-    push_more(&mut told, warnings.len())?;
-    Ok(told)
+    let mut told = TextBuilder::new(alloc);
+    push_each(&mut told, look, file, source, program, first);
+    push_more(&mut told, warnings.len());
+    told.end()
 }
 
 /// The warnings of a program, in the order of its functions, where a run of it wraps these indexes. Errors where there is no memory.
