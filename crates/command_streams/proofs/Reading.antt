@@ -26,14 +26,16 @@ pub record IsReadOn {A : Type 0} (first : List ℕ) (before now : Option (List �
   pub whole : bytes ++ waiting ≡ first ++ more
 
 module _ {A : Type 0} (first : List ℕ) (before : Option (List ℕ)) where
-  pub on_first : (bytes waiting : List ℕ) (count : ℕ) (begun : BegunTrace A) → first ≡ bytes ++ waiting → length bytes ≡ count → IsBegun bytes begun → IsReadOn first before before count begun waiting
-  on_first bytes waiting count begun whole counted is = record {
-    bytes = bytes;
+  -- the first bytes of the head were taken, and the others wait
+  pub on_first : (waiting : List ℕ) (end : ℕ) (begun : BegunTrace A) → end ≤ length first → IsBegun (take end first) begun → waiting ≡ drop end first
+      → IsReadOn first before before end begun waiting
+  on_first waiting end begun within is rest = record {
+    bytes = take end first;
     more = [];
-    counted = counted;
+    counted = omega (arith, within, length-take end first);
     begun_with = is;
     taken = consumes-none before;
-    whole = sym (append-nil first ∙ whole);
+    whole = ap (λ (bytes : List ℕ). take end first ++ bytes) rest ∙ take-append-drop end first ∙ sym (append-nil first);
   }
 
   -- more was read
@@ -141,24 +143,3 @@ module _ {A : Type 0} (before between behind : Option (List ℕ)) where
   pub not_parsed : (text : List ℕ) (result : Result (Trace A) CliFault) → IsRead before behind text → IfErr result (IsFaultOf text) → IfErr result (StopsTrace before behind)
   not_parsed text (Ok trace) read faulty = tt
   not_parsed text (Err fault) read faulty = fault_told before behind text fault read faulty
-
-  -- a text of which the head was read
-  module _ (head text : List ℕ) (end : ℕ) (begun : BegunTrace A) (taken : Consumes before between head) (within : end ≤ length head) (is : IsBegun (take end head) begun)
-      (rest : text ≡ drop end head) where
-    end_is : length (take end head) ≡ end
-    end_is = omega (arith, within, length-take end head)
-
-    whole_is : Consumes before between (take end head ++ text)
-    whole_is = subst (λ (bytes : List ℕ). Consumes before between bytes) (sym (ap (λ (bytes : List ℕ). take end head ++ bytes) rest ∙ take-append-drop end head)) taken
-
-    pub begun_read : (result : Result (Trace A) CliFault)
-        → IfOk result (λ trace. (bytes : List ℕ) → length bytes ≡ end → IsBegun bytes begun → IsMeantBehind (bytes ++ text) between behind (contents trace))
-        → IfOk result (λ trace. IsMeant before behind (contents trace))
-    begun_read (Ok trace) means = means (take end head) end_is is before whole_is
-    begun_read (Err fault) means = tt
-
-    pub begun_stops : (result : Result (Trace A) CliFault)
-        → IfErr result (λ fault. (bytes : List ℕ) → length bytes ≡ end → IsBegun bytes begun → StopsBehind (bytes ++ text) between behind fault)
-        → IfErr result (StopsTrace before behind)
-    begun_stops (Ok trace) stops = tt
-    begun_stops (Err fault) stops = stops (take end head) end_is is before whole_is

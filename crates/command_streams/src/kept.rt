@@ -1,6 +1,6 @@
 //! Reading a text of which no more is kept than its trace cannot give again.
 
-ghost use Rattle.std.specs.Prelude.{◌≡◌, ◌↔◌, ◌≤◌, ◌<◌, ◌++◌, ◌+◌, ◌-◌, ℕ, Option, List, true, false, drop, length};
+ghost use Rattle.std.specs.Prelude.{◌≡◌, ◌↔◌, ◌≤◌, ◌<◌, ◌++◌, ◌+◌, ◌-◌, ℕ, Option, List, true, false, drop, take, length};
 ghost use Rattle.std.specs.Prelude.{IfOk, IfErr, OnOk, IsErrOf, IsTrue, IsNone};
 ghost use Rattle.std.specs.Option.{IfSome};
 ghost use Rattle.std.specs.Io.KnownBytes.{Consumes};
@@ -44,6 +44,19 @@ impl<A: Allocator> Drop for PlainText<A> {
     }
 }
 
+/// Adds the plain lines of a trace's requests behind the first so many to a text.
+fn push_requests<A: Allocator + Copy>(
+    alloc: A,
+    text: &mut Vec<u8, A>,
+    trace: &Trace<A>,
+    count: usize,
+) -> Result<(), AllocError>
+    ensures { OnOk result (text.new.items ≡ rejoined text.old.items count (contents trace.now)) }
+{
+    let lines = trace.print_requests(alloc, count)?;
+    text.extend_from_slice(lines.as_slice())
+}
+
 impl<A: Allocator + Copy> PlainText<A> {
     /// The text.
     pub fn to_text(&self, alloc: A) -> Result<Vec<u8, A>, AllocError>
@@ -51,8 +64,7 @@ impl<A: Allocator + Copy> PlainText<A> {
     {
         let mut text = Vec::new(alloc);
         text.extend_from_slice(self.head.as_slice())?;
-        let lines = self.trace.print_requests(alloc, self.count)?;
-        text.extend_from_slice(lines.as_slice())?;
+        push_requests(alloc, &mut text, &self.trace, self.count)?;
         Ok(text)
     }
 }
@@ -153,6 +165,38 @@ fn read_plain<A: Allocator + Copy, R: Read>(
     Ok(false)
 }
 
+/// Reads what stands behind the first `end` bytes of a head, as long as it is plain.
+fn read_tail<A: Allocator + Copy, R: Read>(
+    alloc: A,
+    input: &mut Watched<R>,
+    piece: &mut [u8],
+    mut begun: BegunTrace<'_, A>,
+    head: &[u8],
+    end: usize,
+) -> Result<Tail<A>, CliFault>
+    requires begun { (end ≤ length head.now) × IsBegun (take end head.now) begun }
+    requires fresh { has_failed input.old ≡ false }
+    requires room { 0 < length piece.old }
+    requires short { length head.now ≤ most_bytes }
+    ensures found { IfOk result
+        (IsReadBehind head.now (R.remaining (held input.old)) (R.remaining (held input.new)) (calls_of input.old) (calls_of input.new)) }
+    ensures fault { IfErr result (StopsReadingFrom head.now (R.remaining (held input.old)) (R.remaining (held input.new))) }
+    ensures fresh { OnOk result (has_failed input.new ≡ false) }
+    ensures failed { IsErrOf result CliFault.Read ↔ IsTrue (has_failed input.new) }
+    ensures calls { IsCalledAtMost (most_reads - length head.now) (calls_of input.old) (calls_of input.new) }
+{
+    let count = begun.request_count();
+    let mut waiting = copy_behind(alloc, head, end)?;
+    let is_ended = read_plain(input, piece, &mut begun, end, &mut waiting)?;
+    Ok(Tail {
+        trace: begun.into_trace(),
+        end,
+        count,
+        waiting,
+        is_ended,
+    })
+}
+
 /// Reads what stands behind the head of a text, as long as it is plain. None where the whole lines of the head have no request, or a fault.
 fn read_behind<A: Allocator + Copy, R: Read>(
     alloc: A,
@@ -172,18 +216,7 @@ fn read_behind<A: Allocator + Copy, R: Read>(
     ensures calls { IsCalledAtMost (most_reads - length head.now) (calls_of input.old) (calls_of input.new) }
 {
     match BegunTrace::begin(alloc, head) {
-        Ok(Some((mut begun, end))) => {
-            let count = begun.request_count();
-            let mut waiting = copy_behind(alloc, head, end)?;
-            let is_ended = read_plain(input, piece, &mut begun, end, &mut waiting)?;
-            Ok(Some(Tail {
-                trace: begun.into_trace(),
-                end,
-                count,
-                waiting,
-                is_ended,
-            }))
-        }
+        Ok(Some((begun, end))) => { Ok(Some(read_tail(alloc, input, piece, begun, head, end)?)) }
         Ok(None) | Err(TextFault::At { .. }) => Ok(None),
         Err(TextFault::Memory) => Err(CliFault::Memory),
     }
@@ -198,8 +231,7 @@ fn restore<A: Allocator + Copy>(
     ensures { OnOk result (head.new.items ≡ restored head.old.items found) }
 {
     head.truncate(found.end);
-    let lines = found.trace.print_requests(alloc, found.count)?;
-    head.extend_from_slice(lines.as_slice())?;
+    push_requests(alloc, head, &found.trace, found.count)?;
     head.extend_from_slice(found.waiting.as_slice())
 }
 

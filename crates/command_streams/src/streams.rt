@@ -1,6 +1,6 @@
 //! Reading the texts that commands are given, and writing those that they answer.
 
-ghost use Rattle.std.specs.Prelude.{◌≡◌, ◌↔◌, ◌≤◌, ◌++◌, ◌+◌, ◌-◌, ◌<◌, ℕ, List, true, false, take, drop, length};
+ghost use Rattle.std.specs.Prelude.{◌≡◌, ◌↔◌, ◌≤◌, ◌++◌, ◌+◌, ◌-◌, ◌<◌, ℕ, List, [], true, false, take, drop, length};
 ghost use Rattle.std.specs.Prelude.{IfOk, IfErr, OnOk, IsErrOf, IsTrue};
 ghost use Rattle.std.specs.Io.KnownBytes.{Appends, Consumes, Keeps};
 ghost use Rattle.text_words.specs.declared.fault.TextFault.{TextFault as SpecFault};
@@ -139,26 +139,27 @@ pub(crate) fn remove_front<A: Allocator>(text: &mut Vec<u8, A>, count: usize)
     text.truncate(len - count);
 }
 
-/// Reads a trace to its end of which the first `done` bytes of the head were taken and the rest stands in `text`.
+/// Reads a trace to its end behind a head, of which the first `end` bytes were taken.
 fn read_on<A: Allocator + Copy, R: Read>(
+    alloc: A,
     input: &mut Watched<R>,
     piece: &mut [u8],
     mut begun: BegunTrace<'_, A>,
-    done: usize,
-    mut text: Vec<u8, A>,
+    head: &[u8],
+    end: usize,
 ) -> Result<Trace<A>, CliFault>
-    requires begun { (bytes : List ℕ) × (length bytes ≡ done) × IsBegun bytes begun }
+    requires begun { (end ≤ length head.now) × IsBegun (take end head.now) begun }
     requires fresh { has_failed input.old ≡ false }
     requires room { 0 < length piece.old }
-    requires short { done + length text.items ≤ most_bytes }
-    ensures ok { IfOk result (λ trace. (bytes : List ℕ) → length bytes ≡ done → IsBegun bytes begun.entry →
-        IsMeantBehind (bytes ++ text.items) (R.remaining (held input.old)) (R.remaining (held input.new)) (trace_contents trace)) }
-    ensures fault { IfErr result (λ fault. (bytes : List ℕ) → length bytes ≡ done → IsBegun bytes begun.entry →
-        StopsBehind (bytes ++ text.items) (R.remaining (held input.old)) (R.remaining (held input.new)) fault) }
+    requires short { length head.now ≤ most_bytes }
+    ensures ok { IfOk result (λ trace.
+        IsMeantBehind head.now (R.remaining (held input.old)) (R.remaining (held input.new)) (trace_contents trace)) }
+    ensures fault { IfErr result (StopsBehind head.now (R.remaining (held input.old)) (R.remaining (held input.new))) }
     ensures failed { IsErrOf result CliFault.Read ↔ IsTrue (has_failed input.new) }
-    ensures calls { IsCalledAtMost (most_reads - (done + length text.items)) (calls_of input.old) (calls_of input.new) }
+    ensures calls { IsCalledAtMost (most_reads - length head.now) (calls_of input.old) (calls_of input.new) }
 {
-    let mut count = done;
+    let mut text = copy_behind(alloc, head, end)?;
+    let mut count = end;
     // Twice as many where no line ended, so that a long line is searched as often as it doubles.
     let mut size = text.len() + text.len().max(PIECE);
     while read_until(input, piece, count, &mut text, size)? {
@@ -177,13 +178,10 @@ fn read_on<A: Allocator + Copy, R: Read>(
     }
 }
 
-/// The trace that a text means, which is let go.
-pub fn parse_trace<A: Allocator + Copy>(
-    alloc: A,
-    mut text: Vec<u8, A>,
-) -> Result<Trace<A>, CliFault>
-    ensures ok { IfOk result (λ trace. TraceMeans text.items (trace_contents trace)) }
-    ensures fault { IfErr result (IsFaultOf text.items) }
+/// The trace that a text means, which is cleared.
+fn parse_text<A: Allocator + Copy>(alloc: A, text: &mut Vec<u8, A>) -> Result<Trace<A>, CliFault>
+    ensures ok { IfOk result (λ trace. TraceMeans text.old.items (trace_contents trace)) }
+    ensures fault { IfErr result (IsFaultOf text.old.items) }
 {
     match Trace::parse(alloc, text.as_slice()) {
         Ok(trace) => {
@@ -196,6 +194,17 @@ pub fn parse_trace<A: Allocator + Copy>(
     }
 }
 
+/// The trace that a text means, which is let go.
+pub fn parse_trace<A: Allocator + Copy>(
+    alloc: A,
+    mut text: Vec<u8, A>,
+) -> Result<Trace<A>, CliFault>
+    ensures ok { IfOk result (λ trace. TraceMeans text.items (trace_contents trace)) }
+    ensures fault { IfErr result (IsFaultOf text.items) }
+{
+    parse_text(alloc, &mut text)
+}
+
 /// What stands behind so many bytes, in a list of its own.
 pub(crate) fn copy_behind<A: Allocator>(
     alloc: A,
@@ -205,10 +214,37 @@ pub(crate) fn copy_behind<A: Allocator>(
     requires { end ≤ length bytes.now }
     ensures { IfOk result (λ text. text.items ≡ drop end bytes.now) }
 {
-    let (_, behind) = bytes.split_at(end);
     let mut text = Vec::new(alloc);
-    text.extend_from_slice(behind)?;
+    text.extend_from_slice(&bytes[end..])?;
     Ok(text)
+}
+
+/// Reads a trace in pieces, behind the head, which is empty at first. Where the declarations go on behind it, it takes the whole text.
+fn read_pieces<A: Allocator + Copy, R: Read>(
+    alloc: A,
+    input: &mut Watched<R>,
+    piece: &mut [u8],
+    head: &mut Vec<u8, A>,
+) -> Result<Trace<A>, CliFault>
+    requires fresh { has_failed input.old ≡ false }
+    requires room { 0 < length piece.old }
+    requires empty { head.old.items ≡ [] }
+    ensures ok { IfOk result (λ trace. IsMeant (R.remaining (held input.old)) (R.remaining (held input.new)) (trace_contents trace)) }
+    ensures fault { IfErr result (StopsTrace (R.remaining (held input.old)) (R.remaining (held input.new))) }
+    ensures failed { IsErrOf result CliFault.Read ↔ IsTrue (has_failed input.new) }
+    ensures calls { IsCalledAtMost most_reads (calls_of input.old) (calls_of input.new) }
+{
+    if !read_until(input, piece, 0, head, PIECE)? {
+        return parse_text(alloc, head);
+    }
+    let bytes = head.as_slice();
+    match BegunTrace::begin(alloc, bytes) {
+        Ok(Some((begun, end))) => return read_on(alloc, input, piece, begun, bytes, end),
+        Ok(None) => {}
+        Err(fault) => return Err(skip_rest(input, piece, bytes.len(), fault)),
+    }
+    read_until(input, piece, 0, head, MOST_BYTES + 1)?;
+    parse_text(alloc, head)
 }
 
 /// Reads a trace in pieces, behind a head. The head alone is kept while it is read: it has the declarations. Where these go on behind it, the
@@ -224,22 +260,8 @@ pub fn read_trace<A: Allocator + Copy, R: Read>(
     ensures calls { IsCalledAtMost most_reads (calls_of input.old) (calls_of input.new) }
 {
     let mut buffer = vec![in alloc; 0u8; PIECE]?;
-    let piece = buffer.as_mut_slice();
     let mut head = Vec::new(alloc);
-    if !read_until(input, piece, 0, &mut head, PIECE)? {
-        return parse_trace(alloc, head);
-    }
-    let bytes = head.as_slice();
-    match BegunTrace::begin(alloc, bytes) {
-        Ok(Some((begun, end))) => {
-            let text = copy_behind(alloc, bytes, end)?;
-            return read_on(input, piece, begun, end, text);
-        }
-        Ok(None) => {}
-        Err(fault) => return Err(skip_rest(input, piece, bytes.len(), fault)),
-    }
-    read_until(input, piece, 0, &mut head, MOST_BYTES + 1)?;
-    parse_trace(alloc, head)
+    read_pieces(alloc, input, buffer.as_mut_slice(), &mut head)
 }
 
 /// Writes a text.

@@ -154,3 +154,50 @@ read_rest-requires-clause-fresh g c = c.in_ok-found.ensures.fresh
 
 pub read_rest-requires-clause-short : goal.read_rest-requires-clause-short
 read_rest-requires-clause-short g c = omega (arith, c.in_ok-read_until.ensures.taken.short)
+
+pub returns-in_err-buffer-clause-ok : goal.returns-in_err-buffer-clause-ok
+returns-in_err-buffer-clause-ok g c =
+    let gone = err_from_is_err_and c.from_residual.result c.from_residual.ensures.1 in
+    rw gone.1 tt
+
+pub returns-in_err-buffer-clause-kept : goal.returns-in_err-buffer-clause-kept
+returns-in_err-buffer-clause-kept g c =
+    let gone = err_from_is_err_and c.from_residual.result c.from_residual.ensures.1 in
+    rw gone.1 tt
+
+pub returns-in_err-buffer-clause-fault : goal.returns-in_err-buffer-clause-fault
+returns-in_err-buffer-clause-fault g c =
+    let gone = err_from_is_err_and c.from_residual.result c.from_residual.ensures.1 in
+    rw (gone.1, gone.2) tt
+
+pub returns-in_err-read_until-clause-ok : goal.returns-in_err-read_until-clause-ok
+returns-in_err-read_until-clause-ok g c =
+    let gone = err_from_is_err_and c.from_residual-in_err-read_until.result c.from_residual-in_err-read_until.ensures.1 in
+    rw gone.1 tt
+
+pub returns-in_err-read_until-clause-kept : goal.returns-in_err-read_until-clause-kept
+returns-in_err-read_until-clause-kept g c =
+    let gone = err_from_is_err_and c.from_residual-in_err-read_until.result c.from_residual-in_err-read_until.ensures.1 in
+    rw gone.1 tt
+
+pub returns-then-not-branch-clause-kept : goal.returns-then-not-branch-clause-kept
+returns-then-not-branch-clause-kept g c = tt
+
+pub returns-then-not-branch-clause-fault : goal.returns-then-not-branch-clause-fault
+returns-then-not-branch-clause-fault g c = tt
+
+pub returns-in_err-found-clause-ok : goal.returns-in_err-found-clause-ok
+returns-in_err-found-clause-ok g c =
+    let gone = err_from_is_err_and c.from_residual-in_err-found.result c.from_residual-in_err-found.ensures.1 in
+    rw gone.1 tt
+
+pub returns-in_err-found-clause-kept : goal.returns-in_err-found-clause-kept
+returns-in_err-found-clause-kept g c =
+    let gone = err_from_is_err_and c.from_residual-in_err-found.result c.from_residual-in_err-found.ensures.1 in
+    rw gone.1 tt
+
+pub returns-in-Some-clause-kept : goal.returns-in-Some-clause-kept
+returns-in-Some-clause-kept g c = c.keep_found.ensures.kept
+
+pub returns-clause-kept : goal.returns-clause-kept
+returns-clause-kept g c = c.read_rest.ensures.kept

@@ -1,4 +1,7 @@
-use Rattle.std.proofs.Common.{◌+◌, length, ap, rules, arith, length-append}
+use Rattle.command_streams.specs.declared.fault.CliFault.TheVariants.{Read}
+use Rattle.command_streams.specs.declared.fault.CliFault.{CliFault}
+use Rattle.command_streams.proofs.Failing.{step_failed, all_well}
+use Rattle.std.proofs.Common.{◌+◌, length, ap, rules, arith, length-append, Err, ◌∙◌}
 use Rattle.std.proofs.lemmas.Result.{err_from_is_err_and}
 use Rattle.command_streams.specs.Watched.{held, calls_of}
 use Rattle.command_streams.specs.PlainTexts.{progress}
@@ -86,3 +89,45 @@ pub returns-clause-calls : goal.returns-clause-calls
 returns-clause-calls g c =
     let inv = c.loop-waiting.invariant in
     called_within _ _ (calls_of c.args.input.now) (calls_of c.loop-waiting.input) (omega (arith, inv.short, inv.grown)) inv.calls
+
+pub read_until-requires-clause-fresh : goal.read_until-requires-clause-fresh
+read_until-requires-clause-fresh g c = c.loop-waiting.invariant.fresh
+
+pub read_until-requires-clause-room : goal.read_until-requires-clause-room
+read_until-requires-clause-room g c = omega (arith, c.loop-waiting.auto.piece, c.requires.room)
+
+pub read_until-requires-clause-short : goal.read_until-requires-clause-short
+read_until-requires-clause-short g c = c.loop-waiting.invariant.short
+
+pub returns-in_err-more-clause-read : goal.returns-in_err-more-clause-read
+returns-in_err-more-clause-read g c =
+    let gone = err_from_is_err_and c.from_residual.result c.from_residual.ensures.1 in
+    rw gone.1 tt
+
+pub returns-in_err-more-clause-fresh : goal.returns-in_err-more-clause-fresh
+returns-in_err-more-clause-fresh g c =
+    let gone = err_from_is_err_and c.from_residual.result c.from_residual.ensures.1 in
+    rw gone.1 tt
+
+pub returns-in_err-more-clause-failed : goal.returns-in_err-more-clause-failed
+returns-in_err-more-clause-failed g c =
+    let gone = err_from_is_err_and c.from_residual.result c.from_residual.ensures.1 in
+    step_failed _ Read _ c.in_err-more.field-0.0 (gone.1 ∙ ap (λ (f : CliFault). Err f) gone.2) c.in_err-more.ensures.failed
+
+pub returns-then-not-more-clause-fault : goal.returns-then-not-more-clause-fault
+returns-then-not-more-clause-fault g c = tt
+
+pub returns-then-not-more-clause-fresh : goal.returns-then-not-more-clause-fresh
+returns-then-not-more-clause-fresh g c = c.in_ok-more.ensures.fresh
+
+pub returns-then-not-more-clause-failed : goal.returns-then-not-more-clause-failed
+returns-then-not-more-clause-failed g c = all_well _ Read _ c.in_ok-more.ensures.fresh
+
+pub returns-clause-fault : goal.returns-clause-fault
+returns-clause-fault g c = tt
+
+pub returns-clause-fresh : goal.returns-clause-fresh
+returns-clause-fresh g c = c.loop-waiting.invariant.fresh
+
+pub returns-clause-failed : goal.returns-clause-failed
+returns-clause-failed g c = all_well _ Read _ c.loop-waiting.invariant.fresh

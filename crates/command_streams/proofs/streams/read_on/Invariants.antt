@@ -1,5 +1,4 @@
-use Rattle.std.proofs.Common.{◌≡◌, ◌-◌, ◌+◌, ◌≤◌, ◌<◌, ◌++◌, ℕ, List, false, length}
-use Rattle.trace_text.specs.Pieces.{IsBegun}
+use Rattle.std.proofs.Common.{◌≡◌, ◌-◌, ◌+◌, ◌≤◌, ◌<◌, false, length}
 use Rattle.command_streams.specs.Watched.{held, has_failed, calls_of, IsCalledAtMost}
 use Rattle.command_streams.specs.Streams.{most_bytes}
 use Rattle.command_streams.proofs.Reading.{IsReadOn}
@@ -8,13 +7,12 @@ use Rattle.command_streams.proofs.streams.read_on.Given as goal
 -- so many bytes were taken, and the others wait
 abbrev pub invariant-loop-text : goal.invariant-loop-text
 invariant-loop-text g l = record {
-  read : (bytes : List ℕ) → length bytes ≡ l.fn.done → IsBegun bytes l.fn.begun
-      → IsReadOn (bytes ++ l.fn.text.items) (g.R.Read.remaining (held l.initial.input)) (g.R.Read.remaining (held l.input)) l.count l.begun l.text.items;
+  read : IsReadOn l.head (g.R.Read.remaining (held l.initial.input)) (g.R.Read.remaining (held l.input)) l.count l.begun l.text.items;
   short : l.count + length l.text.items ≤ most_bytes;
   size : length l.text.items < l.size;
   fresh : has_failed l.input ≡ false;
-  grown : l.fn.done + length l.fn.text.items ≤ l.count + length l.text.items;
-  calls : IsCalledAtMost ((l.count + length l.text.items) - (l.fn.done + length l.fn.text.items)) (calls_of l.initial.input) (calls_of l.input);
+  grown : length l.head ≤ l.count + length l.text.items;
+  calls : IsCalledAtMost ((l.count + length l.text.items) - length l.head) (calls_of l.initial.input) (calls_of l.input);
 }
 
 abbrev pub decreases-loop-text : goal.decreases-loop-text

@@ -43,3 +43,21 @@ returns-in_err-read_until-clause-calls g c =
 
 pub returns-clause-calls : goal.returns-clause-calls
 returns-clause-calls g c = called_within _ _ (calls_of c.args.input.now) (calls_of c.read_until.new.input) (omega arith) c.in_ok-read_until.ensures.calls
+
+pub returns-in_err-buffer-clause-ok : goal.returns-in_err-buffer-clause-ok
+returns-in_err-buffer-clause-ok g c =
+    let gone = err_from_is_err_and c.from_residual.result c.from_residual.ensures.1 in
+    rw gone.1 tt
+
+pub returns-in_err-buffer-clause-fault : goal.returns-in_err-buffer-clause-fault
+returns-in_err-buffer-clause-fault g c =
+    let gone = err_from_is_err_and c.from_residual.result c.from_residual.ensures.1 in
+    rw (gone.1, gone.2) tt
+
+pub returns-in_err-read_until-clause-ok : goal.returns-in_err-read_until-clause-ok
+returns-in_err-read_until-clause-ok g c =
+    let gone = err_from_is_err_and c.from_residual-in_err-read_until.result c.from_residual-in_err-read_until.ensures.1 in
+    rw gone.1 tt
+
+pub returns-clause-fault : goal.returns-clause-fault
+returns-clause-fault g c = tt

@@ -4,7 +4,7 @@ use Rattle.command_streams.specs.Watched.{held, calls_of}
 use Rattle.command_streams.specs.declared.fault.CliFault.{CliFault}
 use Rattle.command_streams.specs.declared.fault.CliFault.TheVariants.{Read}
 use Rattle.command_streams.specs.Streams.{buffered, TakesPieces}
-use Rattle.command_streams.proofs.Failing.{step_failed}
+use Rattle.command_streams.proofs.Failing.{step_failed, all_well}
 use Rattle.command_streams.proofs.Bytes.{uncalled, called_within, pieces_more, pieces_stop, pieces_reached, pieces_none, pieces_on, pieces_called, piece_called}
 use Rattle.command_streams.proofs.streams.read_until.Goals as goal
 
@@ -71,3 +71,45 @@ returns-clause-taken g c =
 pub returns-clause-calls : goal.returns-clause-calls
 returns-clause-calls g c =
     called_within _ _ (calls_of c.args.input.now) (calls_of c.loop-input.input) (omega (arith, c.loop-input.invariant.taken.short)) c.loop-input.invariant.count
+
+pub read_piece-requires-clause-fresh : goal.read_piece-requires-clause-fresh
+read_piece-requires-clause-fresh g c = c.loop-input.invariant.fresh
+
+pub read_piece-requires-clause-room : goal.read_piece-requires-clause-room
+read_piece-requires-clause-room g c = omega (arith, c.loop-input.auto.piece, c.requires.room)
+
+pub returns-in_err-read_piece-clause-taken : goal.returns-in_err-read_piece-clause-taken
+returns-in_err-read_piece-clause-taken g c =
+    let gone = err_from_is_err_and c.from_residual.result c.from_residual.ensures.1 in
+    rw gone.1 tt
+
+pub returns-in_err-read_piece-clause-fresh : goal.returns-in_err-read_piece-clause-fresh
+returns-in_err-read_piece-clause-fresh g c =
+    let gone = err_from_is_err_and c.from_residual.result c.from_residual.ensures.1 in
+    rw gone.1 tt
+
+pub returns-in_err-read_piece-clause-counted : goal.returns-in_err-read_piece-clause-counted
+returns-in_err-read_piece-clause-counted g c =
+    let gone = err_from_is_err_and c.from_residual.result c.from_residual.ensures.1 in
+    rw gone.1 tt
+
+pub returns-then-not-branch-clause-fault : goal.returns-then-not-branch-clause-fault
+returns-then-not-branch-clause-fault g c = tt
+
+pub returns-then-not-branch-clause-fresh : goal.returns-then-not-branch-clause-fresh
+returns-then-not-branch-clause-fresh g c = c.in_ok-read_piece.ensures.fresh
+
+pub returns-then-not-branch-clause-failed : goal.returns-then-not-branch-clause-failed
+returns-then-not-branch-clause-failed g c = all_well _ Read _ c.in_ok-read_piece.ensures.fresh
+
+pub returns-clause-fault : goal.returns-clause-fault
+returns-clause-fault g c = tt
+
+pub returns-clause-fresh : goal.returns-clause-fresh
+returns-clause-fresh g c = c.loop-input.invariant.fresh
+
+pub returns-clause-failed : goal.returns-clause-failed
+returns-clause-failed g c = all_well _ Read _ c.loop-input.invariant.fresh
+
+pub returns-clause-counted : goal.returns-clause-counted
+returns-clause-counted g c = λ more. c.loop-input.invariant.count
