@@ -77,3 +77,7 @@ IsArgument rule arg = (rule_of arg ≡ rule) × (arg.global ≡ false)
 
 abbrev pub IsCommand : App → Command → Type 0
 IsCommand app command = (app_of command ≡ app) × ((fields_of command).has_globals ≡ false)
+
+-- a command with no command of its own
+abbrev pub IsPart : Shape → Command → Type 0
+IsPart shape part = IsCommand (leaf shape) part

@@ -20,3 +20,9 @@ shape_of usage = command usage.name.now (map rule_of usage.words.now)
 abbrev pub with_subcommands : App → List Shape → App
 with_subcommands app [] = app
 with_subcommands app (shape ∷ shapes) = with_subcommands (with_subcommand app shape) shapes
+
+-- each of these fits what stands at its place among those
+abbrev pub AreEach : {X Y : Type 0} → (X → Y → Type 0) → List X → List Y → Type 0
+AreEach fits [] [] = Unit {0}
+AreEach fits (x ∷ xs) (y ∷ ys) = fits x y × AreEach fits xs ys
+AreEach fits xs ys = ⊥

@@ -1,10 +1,10 @@
 //! The commands for the parser of the command line: their texts, and the words that each takes.
 
 ghost use Rattle.std.specs.Prelude.{◌≡◌, IfOk, map};
-ghost use Rattle.clap.specs.Words.{App, new_app, with_subcommand};
-ghost use Rattle.command_words.specs.Commands.{free, wanted, several, option, flag, leaf, program, cilkcheck, IsArgument, IsCommand};
+ghost use Rattle.clap.specs.Words.{new_app};
+ghost use Rattle.command_words.specs.Commands.{free, wanted, several, option, flag, leaf, program, cilkcheck, IsArgument, IsCommand, IsPart};
 ghost use Rattle.command_words.specs.Commands.{judge, elide, run, explain, replay, draw};
-ghost use Rattle.command_words.specs.Usages.{rule_of, shape_of, with_subcommands};
+ghost use Rattle.command_words.specs.Usages.{AreEach, rule_of, shape_of};
 
 use crate::help;
 use clap::{Arg, ArgAction, Command};
@@ -251,15 +251,34 @@ fn begin<'a>(alloc: Global, usage: &Usage<'a>) -> Command<'a>
     }
 }
 
+/// The parser's arguments for the words of a command.
+fn arguments<'a>(alloc: Global, words: &[Word<'a>]) -> Result<Vec<Arg<'a>>, AllocError>
+    ensures { IfOk result (λ arguments. AreEach IsArgument (map rule_of words.now) arguments.items) }
+{
+    let mut arguments = Vec::new(alloc);
+    for word in words {
+        arguments.push(argument(alloc, *word))?;
+    }
+    Ok(arguments)
+}
+
 /// A command with its texts and its words.
 fn command<'a>(alloc: Global, usage: &Usage<'a>) -> Result<Command<'a>, AllocError>
     ensures { IfOk result (IsCommand (leaf (shape_of usage.now))) }
 {
-    let mut command = begin(alloc, usage);
-    for word in usage.words {
-        command = command.arg(argument(alloc, *word))?;
+    let arguments = arguments(alloc, usage.words)?;
+    begin(alloc, usage).args(arguments)
+}
+
+/// The commands that are used so.
+fn parts<'a>(alloc: Global, usages: &[Usage<'a>]) -> Result<Vec<Command<'a>>, AllocError>
+    ensures { IfOk result (λ parts. AreEach IsPart (map shape_of usages.now) parts.items) }
+{
+    let mut parts = Vec::new(alloc);
+    for usage in usages {
+        parts.push(command(alloc, usage)?)?;
     }
-    Ok(command)
+    Ok(parts)
 }
 
 /// The program without its commands. Its words stand behind its name.
@@ -274,39 +293,11 @@ fn program<'a>(alloc: Global) -> Result<Command<'a>, AllocError>
         .bin_name("cilkcheck")
 }
 
-/// The program with one more command.
-fn with<'a>(alloc: Global, whole: Command<'a>, usage: &Usage<'a>) -> Result<Command<'a>, AllocError>
-    ensures { (app : App) → IsCommand app whole.entry → IfOk result (IsCommand (with_subcommand app (shape_of usage.now))) }
-{
-    // (a `?` in the place of the `match` takes the proof many times as long)
-    match command(alloc, usage) {
-        Ok(part) => whole.subcommand(part),
-        Err(error) => {
-            drop(whole);
-            Err(error)
-        }
-    }
-}
-
-/// The program with more commands.
-fn with_all<'a>(
-    alloc: Global,
-    program: Command<'a>,
-    usages: &[Usage<'a>],
-) -> Result<Command<'a>, AllocError>
-    ensures { (app : App) → IsCommand app program.entry → IfOk result (IsCommand (with_subcommands app (map shape_of usages.now))) }
-{
-    let mut whole = program;
-    for usage in usages {
-        whole = with(alloc, whole, usage)?;
-    }
-    Ok(whole)
-}
-
 /// The program with its commands.
 pub(crate) fn commands<'a>(alloc: Global) -> Result<Command<'a>, AllocError>
     ensures { IfOk result (IsCommand cilkcheck) }
 {
     let usages = [judge(), elide(), run(), explain(), replay(), draw()];
-    with_all(alloc, program(alloc)?, &usages)
+    let parts = parts(alloc, &usages)?;
+    program(alloc)?.subcommands(parts)
 }

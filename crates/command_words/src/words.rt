@@ -664,7 +664,7 @@ fn read_given<S: AsStr>(alloc: Global, words: &[S]) -> Result<Job, CliFault>
     ensures ranges { IfOk result IsInRange }
     ensures fault { IfErr result IsUsageFault }
 {
-    // (as in `with` of the commands, no `?`)
+    // (a `?` in the place of the `match` takes the proof many times as long)
     match commands(alloc) {
         Ok(command) => read_by(alloc, command, words),
         Err(_) => Err(CliFault::Memory),

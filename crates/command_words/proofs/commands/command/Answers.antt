@@ -1,8 +1,13 @@
-use Rattle.command_words.proofs.Building.{word_more}
+use Rattle.std.proofs.Common.{[], map}
+use Rattle.std.proofs.lemmas.Result.{IfOk-weaker}
+use Rattle.command_words.specs.Commands.{IsCommand, leaf}
+use Rattle.command_words.specs.Usages.{rule_of, shape_of}
+use Rattle.command_words.proofs.Building.{arguments_added}
 use Rattle.command_words.proofs.commands.command.Goals as goal
 
-pub loop-word-preserved : goal.loop-word-preserved
-loop-word-preserved c =
+pub returns : goal.returns
+returns c =
     let usage = c.args.usage.now in
-    word_more usage.name.now usage.words.now c.loop-word.word-index _ c.loop-word.command c.in_ok-command.command c.argument.result c.loop-word-test.true
-    c.loop-word.invariant c.argument.ensures c.in_ok-command.ensures
+    IfOk-weaker c.args-2.result _ (IsCommand (leaf (shape_of usage)))
+    (λ made adds. arguments_added usage.name.now [] (map rule_of usage.words.now) c.in_ok-arguments.arguments.items c.begin.result made c.begin.ensures
+    c.in_ok-arguments.ensures adds) c.args-2.ensures
