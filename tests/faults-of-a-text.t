@@ -105,6 +105,74 @@ A misspelled `end`, behind which the next function would begin in this one.
     = help: did you mean `end`?
   [2]
 
+Letters that are no ASCII behind `func`: the text is to mean a program all the same.
+
+  $ printf 'cilk 1\nmem x # \303\251\nfunc main z # \303\251\nend\n' > p.cilk
+  $ cilkcheck explain p.cilk
+  error: a line has printable ASCII characters and tabs alone, in comments too
+   --> p.cilk:2
+    |
+  2 | mem x # \xc3\xa9 (esc)
+    |         ^
+    = help: write it in ASCII, or leave it out
+   (esc)
+  error: a line has printable ASCII characters and tabs alone, in comments too
+   --> p.cilk:3
+    |
+  3 | func main z # \xc3\xa9 (esc)
+    |               ^
+    = help: write it in ASCII, or leave it out
+   (esc)
+  2 faults
+  [2]
+  $ printf 'cilk 1\nmem g\303\266 2\nmem y\nmem y\nfunc \303\244\n  write y 1\nend\n' > p.cilk
+  $ cilkcheck explain p.cilk
+  error: a line has printable ASCII characters and tabs alone, in comments too
+   --> p.cilk:2
+    |
+  2 | mem g\xc3\xb6 2 (esc)
+    |      ^
+    = help: write it in ASCII, or leave it out
+   (esc)
+  error: a name is declared already; memories, reducers and functions share one space of names
+   --> p.cilk:4
+    |
+  4 | mem y
+    |     ^
+    = `y` is declared at line 3
+    = help: take another name for one of them
+   (esc)
+  error: a line has printable ASCII characters and tabs alone, in comments too
+   --> p.cilk:5
+    |
+  5 | func \xc3\xa4 (esc)
+    |      ^
+    = help: write it in ASCII, or leave it out
+   (esc)
+  3 faults
+  [2]
+
+A first word with such a letter decides nothing: the next line does.
+
+  $ printf 'cilk 1\nm\303\251m x\nfunc main z\n  wirte x 1\nend\n' > p.cilk
+  $ cilkcheck explain p.cilk
+  error: a line has printable ASCII characters and tabs alone, in comments too
+   --> p.cilk:2
+    |
+  2 | m\xc3\xa9m x (esc)
+    |  ^
+    = help: write it in ASCII, or leave it out
+   (esc)
+  error: no line of a program begins with this word
+   --> p.cilk:4
+    |
+  4 |   wirte x 1
+    |   ^^^^^
+    = help: did you mean `write`?
+   (esc)
+  2 faults
+  [2]
+
 A mark before the header, without which the header is another one.
 
   $ printf '\357\273\277cilk 1\nfunc main\n' > p.cilk

@@ -1,16 +1,16 @@
 -- What the lines of a text decide, one after another.
-use Rattle.std.proofs.Common.{◌≡◌, ℕ, false, List, [], ◌∷◌, Option, Some, None, map, refl, sym, ap}
+use Rattle.std.proofs.Common.{◌≡◌, ℕ, false, List, [], ◌∷◌, Option, Some, None, map, refl, sym, ap, ◌∙◌, take, length, arith, ◌≤◌, ◌+◌, suc, not, cond, true, Bool, filter, take_all}
+use Rattle.std.specs.Prelude.{position}
+use Rattle.std.specs.List.{before_first, position_or_len, find, slice_split}
+use Rattle.std.proofs.lemmas.Bool.Decides.{nat_tests}
+use Rattle.std.proofs.lemmas.Option.{cond_some}
+use Rattle.text_words.specs.Text.{is_hash, is_blank, is_nonempty, IsTextLine}
 use Rattle.std.specs.Option.{option_map, MatchOption}
 use Rattle.std.specs.Str.Lines.{strip_carriage_return}
 use denote.Ref.{Bor}
 use Rattle.text_words.specs.Text.{pieces, lines}
-use Rattle.tool_commands.specs.Sorts.{first_among, first_word, decided, comes_to_function, behind_header, is_program_text}
-
--- the first of some words is taken
-pub first_taken : (result : Option (Bor (List ℕ))) (old new : List (List ℕ)) →
-    MatchOption result ((old ≡ []) × (new ≡ [])) (λ word. old ≡ word.now ∷ new) → option_map (λ word. word.now) result ≡ first_among old
-first_taken None old new none = rw none.0 refl
-first_taken (Some word) old new is = rw is refl
+use Rattle.trace_notes.proofs.Marks.{all_text, some_other}
+use Rattle.tool_commands.specs.Sorts.{first_among, text_word, first_word, decided, comes_to_function, behind_header, is_program_text}
 
 lines_split : (text line rest : List ℕ) → pieces text ≡ line ∷ pieces rest → lines text ≡ strip_carriage_return line ∷ lines rest
 lines_split text line rest is = ap (map strip_carriage_return) is
@@ -29,3 +29,35 @@ nothing_left rest is = rw is refl
 
 pub no_text : (text : List ℕ) → text ≡ [] → is_program_text text ≡ false
 no_text text is = rw is refl
+
+-- the search for a comment ends what stands before it
+pub comment_found : (line : List ℕ) (at : ℕ) → position is_hash line ≡ Some at → take at line ≡ before_first is_hash line
+comment_found line at is = ap (λ n. take n line) (sym (cond_some _ (position_or_len is_hash line) at is).1)
+
+position_more : (b : Bool) (m n : ℕ) → m ≤ n → cond b (1 + m) 0 ≤ suc n
+position_more true m n h = omega arith
+position_more false m n h = omega arith
+
+position_le : (p : ℕ → Bool) (line : List ℕ) → position_or_len p line ≤ length line
+position_le p [] = omega arith
+position_le p (byte ∷ line) = position_more (not (p byte)) _ _ (position_le p line)
+
+pub no_comment : (line : List ℕ) → position is_hash line ≡ None → line ≡ before_first is_hash line
+no_comment line is =
+    let e : position_or_len is_hash line ≡ length line = grind (arith, nat_tests, position_le is_hash line) in
+    rw e (sym (take_all _ line (omega arith)))
+
+-- the first word, among what stands between blanks
+pub first_found : (pieces : List (List ℕ)) → find is_nonempty pieces ≡ first_among (filter is_nonempty pieces)
+first_found [] = refl
+first_found ([] ∷ pieces) = first_found pieces
+first_found ((byte ∷ bytes) ∷ pieces) = refl
+
+-- the first piece is a word, unless a byte of it is one that no line may hold
+pub text_found : (word : List ℕ) (result : Option (Bor (List ℕ))) → MatchOption result (IsTextLine word → ⊥) (λ text. (text.now ≡ word) × IsTextLine word) →
+    option_map (λ text. text.now) result ≡ text_word (Some word)
+text_found word None other = ap (λ b. cond b (Some word) None) (sym (some_other word other))
+text_found word (Some text) is = ap Some is.0 ∙ ap (λ b. cond b (Some word) None) (sym (all_text word is.1))
+
+pub word_found : (line : List ℕ) (found : Option (List ℕ)) → found ≡ find is_nonempty (slice_split is_blank (before_first is_hash line)) → text_word found ≡ first_word line
+word_found line found is = ap text_word (is ∙ first_found (slice_split is_blank (before_first is_hash line)))

@@ -20,7 +20,6 @@ use Rattle.trace_notes.specs.Lines.{Said, said_on}
 use Rattle.trace_notes.specs.Notes.{AreNotes, Adds}
 use Rattle.trace_notes.proofs.Formed.{comments}
 use Rattle.trace_notes.proofs.Kept.{adds_none, adds_plain, are_more}
-use Rattle.trace_notes.proofs.Marks.{all_text}
 use Rattle.trace_text.specs.Traces.{contents as trace_contents}
 use Rattle.command_streams.specs.declared.fault.CliFault.{CliFault}
 use Rattle.command_streams.specs.declared.fault.CliFault.TheVariants.{Memory}
@@ -31,14 +30,14 @@ use Rattle.command_streams.specs.PlainTexts.{rejoined, IsPlainText}
 use Rattle.command_streams.specs.KeptTexts.{text_of, IsKept, KeepsTrace}
 use Rattle.tool_commands.specs.Replays.{StopsGate}
 use Rattle.tool_commands.specs.Explanations.{IsUntoldTrace, StopsTelling, StopsTellingAs}
-use Rattle.tool_commands.specs.Sorts.{first_among, first_word, decided, comes_to_function, behind_header, is_program_text}
+use Rattle.tool_commands.specs.Sorts.{first_among, text_word, first_word, decided, comes_to_function, behind_header, is_program_text}
 
 -- ---- no line of a trace begins with `func`
 
-first_is : (line : List ℕ) (ws : List (List ℕ)) → IsTextLine line → words line ≡ ws → first_word line ≡ first_among ws
-first_is line ws text is = ap (λ (b : Bool). cond b (first_among (words line)) None) (all_text line text) ∙ ap first_among is
+first_is : (line : List ℕ) (ws : List (List ℕ)) → words line ≡ ws → first_word line ≡ text_word (first_among ws)
+first_is line ws is = ap (λ words. text_word (first_among words)) is
 
-act_decides : (asked : Act) (behind : Bool) → decided (Some (spelling (asks asked))) behind ≡ false
+act_decides : (asked : Act) (behind : Bool) → decided (text_word (Some (spelling (asks asked)))) behind ≡ false
 act_decides act.Spawn behind = refl
 act_decides act.Sync behind = refl
 act_decides act.Call behind = refl
@@ -52,13 +51,13 @@ act_decides (act.Get reducer) behind = refl
 
 line_decides : (at : ℕ) (before : Contents) (line : List ℕ) (item : Item) (behind : Bool) → LineMeans at before line item → behind ≡ false
     → decided (first_word line) behind ≡ false
-line_decides at before line Blank behind m none = ap (λ (word : Option (List ℕ)). decided word behind) (first_is line [] m.1 m.2) ∙ none
+line_decides at before line Blank behind m none = ap (λ (word : Option (List ℕ)). decided word behind) (first_is line [] m.2) ∙ none
 line_decides at before line (Declared name length) behind m none =
-    ap (λ (word : Option (List ℕ)). decided word behind) (first_is line _ m.1 m.2.1.1) ∙ none
+    ap (λ (word : Option (List ℕ)). decided word behind) (first_is line _ m.2.1.1) ∙ none
 line_decides at before line (Reduces name monoid) behind m none =
-    ap (λ (word : Option (List ℕ)). decided word behind) (first_is line _ m.1 m.2.1.1) ∙ none
+    ap (λ (word : Option (List ℕ)). decided word behind) (first_is line _ m.2.1.1) ∙ none
 line_decides at before line (Asked asked) behind m none =
-    ap (λ (word : Option (List ℕ)). decided word behind) (first_is line _ m.1 m.2.1.1.1) ∙ act_decides asked.request.act behind
+    ap (λ (word : Option (List ℕ)). decided word behind) (first_is line _ m.2.1.1.1) ∙ act_decides asked.request.act behind
 
 lines_decide : (at : ℕ) (before : Contents) (ls : List (List ℕ)) (last : Contents) → LinesMean at before ls last → comes_to_function ls ≡ false
 lines_decide at before [] last m = refl

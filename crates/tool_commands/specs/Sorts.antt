@@ -8,9 +8,14 @@ abbrev pub first_among : List (List ℕ) → Option (List ℕ)
 first_among [] = None
 first_among (word ∷ words) = Some word
 
--- the first word of a line, where it has one
+-- a word, unless a byte of it is one that no line may hold
+abbrev pub text_word : Option (List ℕ) → Option (List ℕ)
+text_word None = None
+text_word (Some word) = cond (list_all is_text_byte word) (Some word) None
+
+-- the first word of a line, where it has one; behind it there may be bytes that no line may hold
 abbrev pub first_word : List ℕ → Option (List ℕ)
-first_word line = cond (list_all is_text_byte line) (first_among (words line)) None
+first_word line = text_word (first_among (words line))
 
 -- a line that begins with this word declares a name
 abbrev pub is_declaring : List ℕ → Bool

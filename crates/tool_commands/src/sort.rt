@@ -1,20 +1,53 @@
 //! Whether a text is to mean a program or a trace.
 
-ghost use Rattle.std.specs.Prelude.{◌≡◌, Bool, Some, unwrap_or};
+ghost use Rattle.std.specs.Prelude.{◌≡◌, ◌==◌, Bool, Some, unwrap_or, position};
+ghost use Rattle.std.specs.List.{before_first, find, slice_split};
 ghost use Rattle.std.specs.Option.{option_map};
+ghost use Rattle.text_words.specs.Text.{is_blank, is_hash, is_nonempty};
 ghost use Rattle.tool_commands.specs.Sorts.{first_word, is_declaring, decided, is_program_text};
 
-use text_words::{Words, as_text, split_line, without_return};
+use text_words::{as_text, split_line, without_return};
 
-/// The first word of a line, where it has one.
+fn is_blank(byte: u8) -> bool
+    ensures { result ≡ is_blank byte }
+{
+    byte == b' ' || byte == b'\t'
+}
+
+/// Where the comment of a line begins.
+fn comment_at(line: &[u8]) -> Option<usize>
+    ensures { result ≡ position is_hash line.now }
+{
+    line.iter().position(|byte| *byte == b'#')
+}
+
+/// A line without its comment.
+fn before_comment(line: &[u8]) -> &[u8]
+    ensures { result.now ≡ before_first is_hash line.now }
+{
+    match comment_at(line) {
+        Some(at) => &line[..at],
+        None => line,
+    }
+}
+
+/// The first word of a line, whatever bytes it has.
+fn first_piece(line: &[u8]) -> Option<&[u8]>
+    ensures { option_map (λ piece. piece.now) result ≡ find is_nonempty (slice_split is_blank (before_first is_hash line.now)) }
+{
+    before_comment(line)
+        .split(|byte| is_blank(*byte))
+        .find(|piece| !piece.is_empty())
+}
+
+/// The first word of a line, where it has one. Behind it there may be bytes that no line may hold.
 fn first_word(line: &[u8]) -> Option<&str>
     ensures { option_map (λ word. word.now) result ≡ first_word line.now }
 {
-    let Some(text) = as_text(line) else {
-        return None;
-    };
-    let mut words = Words::of_line(text);
-    words.take()
+    match first_piece(line) {
+        Some(word) => as_text(word),
+        None => None,
+    }
 }
 
 /// Whether a line that begins with this word declares a name.

@@ -1,4 +1,4 @@
-//! All faults of a text at once, and the whole text about them: one that `explain` takes for a trace. tests/faults-of-a-text.t has others.
+//! All faults of a text at once, and the whole text about them. tests/faults-of-a-text.t has others.
 
 use super::texts::is_text;
 use fault_lists::{Fault, faults_message};
@@ -12,7 +12,7 @@ use text_words::TextFault;
 type Case<'a> = (&'a str, &'a str);
 
 const PROGRAMS: &[Case<'static>] = &[
-    // Letters that are no ASCII in two comments. `explain` sees no `func` on such a line.
+    // Letters that are no ASCII in two comments, one of them behind `func`.
     (
         "cilk 1\nmem x # \u{e9}\nfunc main z # \u{e9}\nend\n",
         "error: a line has printable ASCII characters and tabs alone, in comments too
