@@ -2,6 +2,10 @@
 
 ghost use Rattle.std.specs.Prelude.{◌≡◌, IfOk, IfSome, IsTrue};
 ghost use Rattle.trace_text.specs.Traces.{contents as trace_contents};
+ghost use Rattle.model_histories.specs.Shapes.{most_entries};
+ghost use Rattle.model_histories.specs.States.{opening};
+ghost use Rattle.race_gate.specs.Cores.{IsCoreOf};
+ghost use Rattle.command_streams.specs.Streams.{declared_shape};
 ghost use Rattle.tool_commands.specs.Cleanness.{IsCleanReply, IsAllClean};
 
 use command_streams::MOST_ENTRIES;
@@ -24,14 +28,22 @@ fn is_short(reply: Reply) -> bool {
     matches!(reply, Reply::Illegal(GateFault::Memory))
 }
 
+/// A core that has answered no request, for those of a trace.
+pub(crate) fn core_for(alloc: Global, trace: &Trace<Global>) -> Result<Core<Global>, AllocError>
+    ensures { IfOk result (λ core. IsCoreOf core (opening (declared_shape (trace_contents trace.now)) most_entries)) }
+{
+    let shape = trace.shape(alloc)?;
+    let mut core = Core::new(alloc, &shape, MOST_ENTRIES)?;
+    core.make_room(trace.lines.likely_strands());
+    Ok(core)
+}
+
 /// How many requests a trace has, where a gate answers all and refuses none. None says nothing. It keeps no entry, so its memory is that of
 /// the strands and cells alone. Errors where there is no memory.
 pub(crate) fn clean_count(alloc: Global, trace: &Trace<Global>) -> Result<Option<usize>, AllocError>
     ensures { IfOk result (λ found. IfSome found (IsAllClean (trace_contents trace.now))) }
 {
-    let shape = trace.shape(alloc)?;
-    let mut core = Core::new(alloc, &shape, MOST_ENTRIES)?;
-    core.make_room(trace.lines.likely_strands());
+    let mut core = core_for(alloc, trace)?;
     for line in trace.lines.iter() {
         let reply = core.reply(line.request);
         if is_short(reply) {

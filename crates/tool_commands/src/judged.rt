@@ -8,9 +8,9 @@ ghost use Rattle.packed_history.specs.Entries.{entry_of as entry_spec};
 ghost use Rattle.race_pairs.specs.Digests.{IsDigest, is_of_own_lines, most_of};
 ghost use Rattle.tool_commands.specs.Digested.{IsDigested};
 
-use command_streams::MOST_ENTRIES;
+use crate::clean::core_for;
 use packed_history::Entries;
-use race_gate::{Core, Entry, GateFault, Receipt, Reply};
+use race_gate::{Entry, GateFault, Receipt, Reply};
 use race_pairs::Digest;
 use std::alloc::{AllocError, Global};
 use trace_text::Trace;
@@ -45,9 +45,7 @@ fn grow_digest(
     ensures digested { IfOk result (λ found. IfSome found (IsDigested (trace_contents trace.now))) }
     ensures most { IfOk result (λ found. IfSome found (λ grown. most_of grown ≡ most_of digest)) }
 {
-    let shape = trace.shape(alloc)?;
-    let mut core = Core::new(alloc, &shape, MOST_ENTRIES)?;
-    core.make_room(trace.lines.likely_strands());
+    let mut core = core_for(alloc, trace)?;
     let mut last = 0;
     for line in trace.lines.iter() {
         if !may_follow(&digest, last, line.request.line) {
