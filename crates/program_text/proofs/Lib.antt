@@ -1,7 +1,6 @@
 pub mod Unique
 pub mod Knowing
 pub mod Linked
-pub mod Ends
 pub mod Said
 pub mod Numbers
 pub mod Taken

@@ -16,7 +16,7 @@ use Rattle.program_lines.specs.Faults.{WordsFault}
 use Rattle.program_text.specs.Functions.{functions_of}
 use Rattle.program_text.specs.Drafts.{Draft, Contents, scope_of}
 use Rattle.model_bodies.specs.Codes.{main_of}
-use Rattle.program_text.specs.Grammar.{IsInOrder, HasRoom, LineMeans, LinesMean, extended, nothing}
+use Rattle.program_text.specs.Grammar.{IsSaid, IsInOrder, HasRoom, LineMeans, LinesMean, extended, nothing}
 
 -- ---- lines
 
@@ -64,6 +64,10 @@ IsTextFault text (At line why) = TextFaults text line why
 IsTextFault text Memory = Unit {0}
 
 -- ---- one line, as the code reads it
+
+-- The item has its place and room.
+abbrev pub Fits : Draft → Item → Type 0
+Fits before item = IsSaid before item × IsInOrder before item × HasRoom before item
 
 -- The item fits, and next is what was read with it.
 abbrev pub AddsItem : ℕ → Draft → Item → Draft → Type 0

@@ -52,12 +52,17 @@ HasRoom so_far (Begins name parameter) = (so_far.lines ≤ max_statements) × (b
 HasRoom so_far (Decides register) = (so_far.lines ≤ max_statements) × HasDepth so_far.current
 HasRoom so_far item = so_far.lines ≤ max_statements
 
+-- The register that a statement is the first to name has a name and room.
+abbrev pub HasRegister : List (List ℕ) → Option (List ℕ) → Type 0
+HasRegister registers None = Unit {0}
+HasRegister registers (Some name) = IsName name × (length registers < max_registers)
+
 -- What the words of an item tell of its names: they are names, new ones where the item makes them known, and a new register has room.
 abbrev pub IsSaid : Draft → Item → Type 0
 IsSaid so_far (Declared name length) = IsName name × IsFresh so_far.known name
 IsSaid so_far (Reduces name monoid) = IsName name × IsFresh so_far.known name
 IsSaid so_far (Begins name parameter) = IsName name × IsName parameter
-IsSaid so_far (Does statement (Some name)) = IsName name × (length (registers_of so_far.current) < max_registers)
+IsSaid so_far (Does statement named) = HasRegister (registers_of so_far.current) named
 IsSaid so_far item = Unit {0}
 
 -- What was read so far with another open function, and one more line with words.

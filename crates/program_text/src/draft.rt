@@ -1,24 +1,25 @@
 //! What was read of a program so far.
 
-ghost use Rattle.std.specs.Prelude.{◌≡◌, ◌≢◌, ◌≤◌, ◌↔◌, None, IsTrue, MatchResult, length, option_copied};
+ghost use Rattle.std.specs.Prelude.{◌≡◌, ◌≢◌, ◌≤◌, ◌↔◌, ℕ, None, OnOk, IsTrue, MatchResult, length, option_copied};
+ghost use Rattle.text_words.specs.Text.{words, IsTextLine};
 ghost use Rattle.model_bodies.specs.Sound.{max_functions};
-ghost use Rattle.program_lines.specs.Grammar.{Item as SpecItem, Declared, Reduces, Begins, Does, Decides, Otherwise, Ends};
+ghost use Rattle.program_lines.specs.Grammar.{Item as SpecItem, ItemMeans, Begins, Does, Decides, Otherwise, Ends};
 ghost use Rattle.program_lines.specs.Items.{item_of};
 ghost use Rattle.program_lines.specs.Scopes.{max_registers};
-ghost use Rattle.program_text.specs.Drafts.{begun as begun_of, registers_of};
-ghost use Rattle.program_text.specs.Grammar.{IsSaid, LineMeans, extended, nothing};
-ghost use Rattle.program_text.specs.Faults.{AddsItem, IsRoomFault, IsLineFault};
+ghost use Rattle.program_text.specs.Drafts.{begun as begun_of, registers_of, scope_of};
+ghost use Rattle.program_text.specs.Grammar.{IsSaid, IsInOrder, HasDepth, HasRoom, LineMeans, extended, nothing};
+ghost use Rattle.program_text.specs.Faults.{AddsItem, Fits, IsRoomFault, IsLineFault};
 
 use crate::function::Function;
 use crate::open_function::Open;
 use program_lines::{FunctionNames, Item, NameScope, Register, Statement, read_line};
-use std::alloc::Allocator;
+use std::alloc::{AllocError, Allocator};
 use std::marker::Model;
 use text_words::{Cause, Mem, Monoid, Name, Names, Reducer, TextFault, Version, Words, as_text};
 use trace_text::{CELLS, LINES, REDUCERS};
 
 /// The most functions of a program.
-pub const FUNCTIONS: usize = 1_000;
+pub const FUNCTIONS: u32 = 1_000;
 /// The most statements of a program: lines with words behind the first `func`, up to the last `end`.
 pub const STATEMENTS: u32 = 100_000;
 /// The most `if`s that stand in one another.
@@ -113,166 +114,164 @@ impl<'a, A: Allocator + Copy> Draft<'a, A> {
         }
     }
 
-    /// Adds a memory.
-    fn declare(&mut self, at: u32, name: &'a str, length: Option<u32>) -> Result<(), TextFault>
-        requires { IsSaid self.old (Declared name.now length) }
-        ensures { MatchResult result
-            (λ _. AddsItem at self.old (Declared name.now length) self.new)
-            (IsRoomFault at self.old (Declared name.now length)) }
+    /// Whether the item may stand here.
+    fn is_in_order(&self, item: Item<'_>) -> bool
+        ensures { IsTrue result ↔ IsInOrder self.now (item_of item.entry) }
     {
-        if self.begun() != 0 {
-            return Err(fault(at, Cause::BadNesting));
+        match item {
+            Item::Blank => true,
+            Item::Declared { .. } | Item::Reduces { .. } => self.begun() == 0,
+            Item::Begins { .. } => self.current.is_none(),
+            Item::Does { .. } | Item::Decides { .. } | Item::Ends => self.current.is_some(),
+            Item::Otherwise => match &self.current {
+                Some(function) => function.is_first(),
+                None => false,
+            },
         }
-        if at > LINES || u64::from(self.names.cells()) + u64::from(length.unwrap_or(1)) > CELLS {
-            return Err(fault(at, Cause::TooMany));
-        }
-        self.names.add_memory(at, name, length)?;
-        Ok(())
     }
 
-    /// Adds a reducer.
-    fn reduce(&mut self, at: u32, name: &'a str, monoid: Monoid) -> Result<(), TextFault>
-        requires { IsSaid self.old (Reduces name.now monoid) }
-        ensures { MatchResult result
-            (λ _. AddsItem at self.old (Reduces name.now monoid) self.new)
-            (IsRoomFault at self.old (Reduces name.now monoid)) }
+    /// Whether one more `if` may be open.
+    fn has_depth(&self) -> bool
+        ensures { IsTrue result ↔ HasDepth self.now.current }
     {
-        if self.begun() != 0 {
-            return Err(fault(at, Cause::BadNesting));
+        match &self.current {
+            Some(function) => function.depth() < NESTED,
+            None => true,
         }
-        if at > LINES || self.names.reducer_count() >= REDUCERS {
-            return Err(fault(at, Cause::TooMany));
+    }
+
+    /// Whether the item passes no limit.
+    fn has_room(&self, item: Item<'_>) -> bool
+        ensures { IsTrue result ↔ HasRoom self.now (item_of item.entry) }
+    {
+        match item {
+            Item::Blank => true,
+            Item::Declared { length, .. } => {
+                u64::from(self.names.cells()) + u64::from(length.unwrap_or(1)) <= CELLS
+            }
+            Item::Reduces { .. } => self.names.reducer_count() < REDUCERS,
+            Item::Begins { .. } => self.lines <= STATEMENTS && self.begun() < FUNCTIONS,
+            Item::Decides { .. } => self.lines <= STATEMENTS && self.has_depth(),
+            Item::Does { .. } | Item::Otherwise | Item::Ends => self.lines <= STATEMENTS,
         }
-        self.names.add_reducer(at, name, monoid)?;
-        Ok(())
     }
 
     /// Begins a function.
-    fn begin(&mut self, alloc: A, at: u32, name: &str, parameter: &str) -> Result<(), TextFault>
-        requires { IsSaid self.old (Begins name.now parameter.now) }
-        ensures { MatchResult result
-            (λ _. AddsItem at self.old (Begins name.now parameter.now) self.new)
-            (IsRoomFault at self.old (Begins name.now parameter.now)) }
+    fn begin(&mut self, alloc: A, at: u32, name: &str, parameter: &str) -> Result<(), AllocError>
+        requires { Fits self.old (Begins name.now parameter.now) }
+        ensures { OnOk result (self.new ≡ extended at self.old (Begins name.now parameter.now)) }
     {
-        if self.current.is_some() {
-            return Err(fault(at, Cause::BadNesting));
-        }
-        if at > LINES || self.lines > STATEMENTS || self.functions.len() >= FUNCTIONS {
-            return Err(fault(at, Cause::TooMany));
-        }
         self.current = Some(Open::new(alloc, at, name, parameter)?);
         self.lines += 1;
         Ok(())
     }
 
     /// Adds a statement, and the register that it is the first to name.
-    fn act(
-        &mut self,
-        at: u32,
-        statement: Statement,
-        named: Option<&'a str>,
-    ) -> Result<(), TextFault>
-        requires { IsSaid self.old (Does statement (option_copied named)) }
-        ensures { MatchResult result
-            (λ _. AddsItem at self.old (Does statement (option_copied named.entry)) self.new)
-            (IsRoomFault at self.old (Does statement (option_copied named.entry))) }
+    fn act(&mut self, statement: Statement, named: Option<&str>) -> Result<(), AllocError>
+        requires { Fits self.old (Does statement (option_copied named)) }
+        ensures { (at : ℕ) → OnOk result (self.new ≡ extended at self.old (Does statement (option_copied named.entry))) }
     {
-        let Some(function) = &mut self.current else {
-            return Err(fault(at, Cause::BadNesting));
-        };
-        if at > LINES || self.lines > STATEMENTS {
-            return Err(fault(at, Cause::TooMany));
-        }
-        if let Some(name) = named {
-            function.name_register(name)?;
-        }
-        function.add(statement)?;
         self.lines += 1;
-        Ok(())
+        match &mut self.current {
+            Some(function) => function.act(statement, named),
+            None => unreachable!(),
+        }
     }
 
     /// Adds an `if`.
-    fn decide(&mut self, at: u32, register: Register) -> Result<(), TextFault>
-        ensures { MatchResult result
-            (λ _. AddsItem at self.old (Decides register) self.new)
-            (IsRoomFault at self.old (Decides register)) }
+    fn decide(&mut self, at: u32, register: Register) -> Result<(), AllocError>
+        requires { Fits self.old (Decides register) }
+        ensures { OnOk result (self.new ≡ extended at self.old (Decides register)) }
     {
-        let Some(function) = &mut self.current else {
-            return Err(fault(at, Cause::BadNesting));
-        };
-        if at > LINES || self.lines > STATEMENTS || function.depth() >= NESTED {
-            return Err(fault(at, Cause::TooMany));
-        }
-        function.decide(at, register)?;
         self.lines += 1;
-        Ok(())
+        match &mut self.current {
+            Some(function) => function.decide(at, register),
+            None => unreachable!(),
+        }
     }
 
     /// Adds an `else`.
-    fn divide(&mut self, at: u32) -> Result<(), TextFault>
-        ensures { MatchResult result
-            (λ _. AddsItem at self.old Otherwise self.new)
-            (IsRoomFault at self.old Otherwise) }
+    fn divide(&mut self, at: u32) -> Result<(), AllocError>
+        requires { Fits self.old Otherwise }
+        ensures { OnOk result (self.new ≡ extended at self.old Otherwise) }
     {
-        let Some(function) = &mut self.current else {
-            return Err(fault(at, Cause::BadNesting));
-        };
-        if !function.is_first() {
-            return Err(fault(at, Cause::BadNesting));
-        }
-        if at > LINES || self.lines > STATEMENTS {
-            return Err(fault(at, Cause::TooMany));
-        }
-        function.divide(at)?;
         self.lines += 1;
-        Ok(())
+        match &mut self.current {
+            Some(function) => function.divide(at),
+            None => unreachable!(),
+        }
     }
 
     /// Adds an `end`, of the innermost `if` or of the function.
-    fn end(&mut self, at: u32) -> Result<(), TextFault>
-        ensures { MatchResult result
-            (λ _. AddsItem at self.old Ends self.new)
-            (IsRoomFault at self.old Ends) }
+    fn end(&mut self, at: u32) -> Result<(), AllocError>
+        requires { Fits self.old Ends }
+        ensures { OnOk result (self.new ≡ extended at self.old Ends) }
     {
-        let Some(function) = &mut self.current else {
-            return Err(fault(at, Cause::BadNesting));
-        };
-        if at > LINES || self.lines > STATEMENTS {
-            return Err(fault(at, Cause::TooMany));
-        }
-        let was_part = function.end(at)?;
         self.lines += 1;
-        if was_part {
-            return Ok(());
-        }
-        if let Some(function) = self.current.take() {
+        let was_part = match &mut self.current {
+            Some(function) => function.end(at)?,
+            None => unreachable!(),
+        };
+        if !was_part && let Some(function) = self.current.take() {
             self.functions.push(function.into_function(at))?;
         }
         Ok(())
     }
 
+    /// Adds an item that has its place and room.
+    fn extend(&mut self, alloc: A, at: u32, item: Item<'a>) -> Result<(), AllocError>
+        requires { Fits self.old (item_of item) }
+        ensures { OnOk result (self.new ≡ extended at self.old (item_of item.entry)) }
+    {
+        match item {
+            Item::Blank => Ok(()),
+            Item::Declared { name, length } => self.names.add_memory(at, name, length),
+            Item::Reduces { name, monoid } => self.names.add_reducer(at, name, monoid),
+            Item::Begins { name, parameter } => self.begin(alloc, at, name, parameter),
+            Item::Does { statement, named } => self.act(statement, named),
+            Item::Decides { register } => self.decide(at, register),
+            Item::Otherwise => self.divide(at),
+            Item::Ends => self.end(at),
+        }
+    }
+
     /// Adds what the line with the number `at` says.
-    pub fn add(&mut self, alloc: A, at: u32, item: Item<'a>) -> Result<(), TextFault>
+    fn add(&mut self, alloc: A, at: u32, item: Item<'a>) -> Result<(), TextFault>
         requires { IsSaid self.old (item_of item) }
         ensures { MatchResult result
             (λ _. AddsItem at self.old (item_of item.entry) self.new)
             (IsRoomFault at self.old (item_of item.entry)) }
     {
-        match item {
-            Item::Blank => {
-                if at > LINES {
-                    Err(fault(at, Cause::TooMany))
-                } else {
-                    Ok(())
-                }
-            }
-            Item::Declared { name, length } => self.declare(at, name, length),
-            Item::Reduces { name, monoid } => self.reduce(at, name, monoid),
-            Item::Begins { name, parameter } => self.begin(alloc, at, name, parameter),
-            Item::Does { statement, named } => self.act(at, statement, named),
-            Item::Decides { register } => self.decide(at, register),
-            Item::Otherwise => self.divide(at),
-            Item::Ends => self.end(at),
+        if !self.is_in_order(item) {
+            return Err(fault(at, Cause::BadNesting));
+        }
+        if at > LINES || !self.has_room(item) {
+            return Err(fault(at, Cause::TooMany));
+        }
+        match self.extend(alloc, at, item) {
+            Ok(()) => Ok(()),
+            Err(_) => Err(TextFault::Memory),
+        }
+    }
+
+    /// What the line with the number `at` of a text with these functions says, in its place or not.
+    fn read(
+        &self,
+        names: &FunctionNames<'a, A>,
+        at: u32,
+        line: &'a [u8],
+    ) -> Result<Item<'a>, TextFault>
+        ensures { MatchResult result
+            (λ item. IsTextLine line.now × ItemMeans at (scope_of names.now self.now) (words line.now) (item_of item))
+            (IsLineFault names.now at self.now line.now) }
+    {
+        let Some(text) = as_text(line) else {
+            return Err(fault(at, Cause::NotText));
+        };
+        let scope = NameScope::new(&self.names, names, self.begun(), self.registers());
+        match read_line(at, &scope, &mut Words::of_line(text)) {
+            Ok(item) => Ok(item),
+            Err(why) => Err(fault(at, why)),
         }
     }
 
@@ -288,13 +287,9 @@ impl<'a, A: Allocator + Copy> Draft<'a, A> {
             (λ _. (item : SpecItem) × LineMeans names.now at self.old line.now item × (self.new ≡ extended at self.old item))
             (IsLineFault names.now at self.old line.now) }
     {
-        let Some(text) = as_text(line) else {
-            return Err(fault(at, Cause::NotText));
-        };
-        let scope = NameScope::new(&self.names, names, self.begun(), self.registers());
-        match read_line(at, &scope, &mut Words::of_line(text)) {
+        match self.read(names, at, line) {
             Ok(item) => self.add(alloc, at, item),
-            Err(why) => Err(fault(at, why)),
+            Err(fault) => Err(fault),
         }
     }
 

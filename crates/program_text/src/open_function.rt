@@ -1,12 +1,12 @@
 //! A function that has not ended.
 
-ghost use Rattle.std.specs.Prelude.{◌≡◌, ◌+◌, ◌<◌, ◌≤◌, ◌↔◌, [], Some, IsTrue, OnOk, OnErr, IfOk, length};
+ghost use Rattle.std.specs.Prelude.{◌≡◌, ◌+◌, ◌≤◌, ◌↔◌, [], IsTrue, OnOk, OnErr, IfOk, length, option_copied};
 ghost use Rattle.text_words.specs.Text.{IsName};
 ghost use Rattle.program_lines.specs.Scopes.{max_registers};
 ghost use Rattle.model_bodies.specs.Sound.{max_statements};
 ghost use Rattle.program_text.specs.Drafts.{ending as ending_of, with_end, first_open, with_register};
 ghost use Rattle.program_text.specs.Drafts.{with_statement, with_choice, with_else, code_of};
-ghost use Rattle.program_text.specs.Grammar.{IsFirst};
+ghost use Rattle.program_text.specs.Grammar.{HasRegister, IsFirst};
 ghost use Rattle.program_text.specs.Openings.{EndsPart};
 
 use crate::function::{Body, Function, RegisterNames};
@@ -123,25 +123,27 @@ impl<A: Allocator + Copy> Open<A> {
         }
     }
 
-    /// Adds the name of a register.
-    pub fn name_register(&mut self, name: &str) -> Result<(), AllocError>
-        requires is_name { IsName name.now }
-        requires room { length self.old.registers < max_registers }
-        ensures registers { OnOk result (self.new ≡ with_register self.old (Some name.now)) }
-        ensures body { self.new.body ≡ self.old.body }
-    {
-        self.registers.push(Name::new(name))?;
-        Ok(())
-    }
-
     /// Adds a statement.
-    pub fn add(&mut self, statement: Statement) -> Result<(), AllocError>
+    fn add(&mut self, statement: Statement) -> Result<(), AllocError>
         ensures added { OnOk result (self.new ≡ with_statement self.old statement) }
         ensures body { length self.new.body ≤ length self.old.body + 1 }
         ensures err { OnErr result (length self.new.body ≤ length self.old.body) }
     {
         self.body.push(statement)?;
         Ok(())
+    }
+
+    /// Adds a statement, and the register that it is the first to name.
+    pub fn act(&mut self, statement: Statement, named: Option<&str>) -> Result<(), AllocError>
+        requires { HasRegister self.old.registers (option_copied named) }
+        ensures acted { OnOk result (self.new ≡ with_statement (with_register self.old (option_copied named.entry)) statement) }
+        ensures body { length self.new.body ≤ length self.old.body + 1 }
+        ensures err { OnErr result (length self.new.body ≤ length self.old.body) }
+    {
+        if let Some(name) = named {
+            self.registers.push(Name::new(name))?;
+        }
+        self.add(statement)
     }
 
     /// Adds an `if`, whose first part begins.
@@ -151,17 +153,15 @@ impl<A: Allocator + Copy> Open<A> {
         ensures body { length self.new.body ≤ length self.old.body + 1 }
         ensures err { OnErr result (length self.new.body ≤ length self.old.body) }
     {
-        let place = self.body.len() as u32;
         self.parts.push(Part {
-            place,
+            place: self.body.len() as u32,
             second: false,
         })?;
-        self.body.push(Statement::If {
+        self.add(Statement::If {
             line: at,
             register,
             otherwise: 0,
-        })?;
-        Ok(())
+        })
     }
 
     /// Adds an `else`: the innermost part ends behind it, and the second begins.
@@ -171,16 +171,18 @@ impl<A: Allocator + Copy> Open<A> {
         ensures body { length self.new.body ≤ length self.old.body + 1 }
         ensures err { OnErr result (length self.new.body ≤ length self.old.body) }
     {
-        if let Some(part) = self.parts.pop() {
-            let place = self.body.len() as u32;
-            end_part(&mut self.body, part.place, place + 1);
-            self.parts.push(Part {
-                place,
-                second: true,
-            })?;
-            self.body.push(Statement::Else { line: at, after: 0 })?;
+        match self.parts.pop() {
+            Some(part) => {
+                let place = self.body.len() as u32;
+                end_part(&mut self.body, part.place, place + 1);
+                self.parts.push(Part {
+                    place,
+                    second: true,
+                })?;
+                self.add(Statement::Else { line: at, after: 0 })
+            }
+            None => Ok(()),
         }
-        Ok(())
     }
 
     /// Adds the `end` of the innermost part, if one has not ended. It tells whether there was one.
@@ -194,7 +196,7 @@ impl<A: Allocator + Copy> Open<A> {
             Some(part) => {
                 let place = self.body.len() as u32;
                 end_part(&mut self.body, part.place, place + 1);
-                self.body.push(Statement::End { line: at })?;
+                self.add(Statement::End { line: at })?;
                 Ok(true)
             }
             None => Ok(false),

@@ -1,6 +1,6 @@
 //! A program as text.
 
-ghost use Rattle.std.specs.Prelude.{◌≡◌, ◌∷◌, ◌++◌, [], List, IfOk, IsTrue, string_bytes};
+ghost use Rattle.std.specs.Prelude.{◌≡◌, ◌∷◌, ◌++◌, [], List, IfOk, OnOk, IsTrue, string_bytes};
 ghost use Rattle.text_words.specs.declared.value.Version.{Version};
 ghost use Rattle.trace_text.specs.Shapes.{is_numbered};
 ghost use Rattle.trace_text.specs.Printing.{declarations, known_of};
@@ -198,16 +198,18 @@ impl<A: Allocator> Program<A> {
     ghost use Rattle.program_text.specs.Programs.{contents};
     ghost use Rattle.program_text.specs.Printing.{plain_text};
 
-    fn text<B: Allocator>(&self, alloc: B) -> Result<Vec<u8, B>, AllocError>
-        ensures { IfOk result (λ text. text.items ≡ plain_text (contents self.now)) }
+    /// Appends the plain text to an empty one.
+    fn put_text<B: Allocator>(&self, out: &mut String<B>) -> Result<(), AllocError>
+        requires { string_bytes out.old ≡ [] }
+        ensures { OnOk result (string_bytes out.new ≡ plain_text (contents self.now)) }
     {
         let version = version_word(self.version);
-        let mut out = format!(in alloc; "cilk {version}\n")?;
         let mems = self.mems.as_slice();
         let reducers = self.reducers.as_slice();
-        let at = put_declared(&mut out, mems, reducers)?;
-        put_functions(&mut out, at, mems, reducers, self.functions.as_slice())?;
-        Ok(out.into_bytes())
+        writeln!(out, "cilk {version}")?;
+        let at = put_declared(out, mems, reducers)?;
+        put_functions(out, at, mems, reducers, self.functions.as_slice())?;
+        Ok(())
     }
 
     /// The plain text of the program, which means this program and no other: each item stands on its own line, with blank lines between
@@ -216,7 +218,10 @@ impl<A: Allocator> Program<A> {
         ensures plain { IfOk result (λ text. text.items ≡ plain_text (contents self.now)) }
         ensures means { IfOk result (λ text. ∥ TextMeans text.items (contents self.now) ∥₁) }
     {
-        let text = self.text(alloc)?;
-        Ok(text)
+        let mut out = String::new(alloc);
+        match self.put_text(&mut out) {
+            Ok(()) => Ok(out.into_bytes()),
+            Err(error) => Err(error),
+        }
     }
 }

@@ -3,7 +3,7 @@
 ghost use Rattle.std.specs.Prelude.{◌≡◌, [], None, Some, OnOk, IfOk, MatchResult, option_copied, position};
 ghost use Rattle.std.specs.List.{before_first};
 ghost use Rattle.text_words.specs.Text.{lines, is_hash};
-ghost use Rattle.program_text.specs.Functions.{is_name_word, function_in as named_in, function_named, with_function, functions_of};
+ghost use Rattle.program_text.specs.Functions.{is_name_word, function_in as named_in, function_named, with_function, functions_from, functions_of};
 ghost use Rattle.program_text.specs.Drafts.{held};
 ghost use Rattle.model_bodies.specs.Codes.{main_of as main_among};
 ghost use Rattle.program_text.specs.Grammar.{nothing, LinesMean, TextMeans};
@@ -77,21 +77,20 @@ fn note_function<'a, A: Allocator + Copy>(
     }
 }
 
-/// The functions that the lines behind the header make known, also those past the most that a program may have.
-fn function_names<'a, A: Allocator + Copy>(
-    alloc: A,
+/// Adds the functions that these lines make known, also those past the most that a program may have.
+fn note_functions<'a, A: Allocator + Copy>(
+    names: &mut FunctionNames<'a, A>,
     text: &'a [u8],
-) -> Result<FunctionNames<'a, A>, AllocError>
-    ensures { IfOk result (λ names. names ≡ functions_of (lines text.now)) }
+) -> Result<(), AllocError>
+    ensures { OnOk result (names.new ≡ functions_from names.old (lines text.now)) }
 {
-    let mut names = FunctionNames::new(alloc);
     let mut rest = text;
     while !rest.is_empty() {
         let (line, after) = split_line(rest);
-        note_function(&mut names, without_return(line))?;
+        note_function(names, without_return(line))?;
         rest = after;
     }
-    Ok(names)
+    Ok(())
 }
 
 /// The number of the function `main`.
@@ -160,23 +159,21 @@ fn read_body<'a, A: Allocator + Copy>(
     }
 }
 
-/// Reads the lines behind the first, where the text has these functions.
-fn body_with<'a, A: Allocator + Copy>(
+/// Reads the lines behind the first into the draft with the functions that they make known, and gives the number of `main`.
+fn read_behind_header<'a, A: Allocator + Copy>(
+    draft: &mut Draft<'a, A>,
     alloc: A,
-    version: Version,
-    names: &FunctionNames<'a, A>,
     text: &'a [u8],
-) -> Result<(Draft<'a, A>, u32), TextFault>
-    requires { names.now ≡ functions_of (lines text.now) }
+) -> Result<u32, TextFault>
     ensures means { MatchResult result
-        (λ read. LinesMean (functions_of (lines text.now)) 2 (nothing version) (lines text.now) (held read.0))
-        (IsBodyFault version text.now) }
-    ensures main { IfOk result (λ read. main_among read.0.functions ≡ Some read.1) }
+        (λ _. LinesMean (functions_of (lines text.now)) 2 draft.old (lines text.now) (held draft.new))
+        (IsFaultOfLines (functions_of (lines text.now)) draft.old (lines text.now)) }
+    ensures main { IfOk result (λ main. main_among draft.new.functions ≡ Some main) }
 {
-    let mut draft = Draft::new(alloc, version);
-    match read_body(&mut draft, alloc, names, text) {
-        Ok(main) => Ok((draft, main)),
-        Err(fault) => Err(fault),
+    let mut names = FunctionNames::new(alloc);
+    match note_functions(&mut names, text) {
+        Ok(()) => read_body(draft, alloc, &names, text),
+        Err(_) => Err(TextFault::Memory),
     }
 }
 
@@ -191,8 +188,11 @@ fn body<'a, A: Allocator + Copy>(
         (IsBodyFault version text.now) }
     ensures main { IfOk result (λ read. main_among read.0.functions ≡ Some read.1) }
 {
-    let names = function_names(alloc, text)?;
-    body_with(alloc, version, &names, text)
+    let mut draft = Draft::new(alloc, version);
+    match read_behind_header(&mut draft, alloc, text) {
+        Ok(main) => Ok((draft, main)),
+        Err(fault) => Err(fault),
+    }
 }
 
 /// Reads a text.

@@ -4,7 +4,7 @@ use Rattle.text_words.specs.Text.{lines}
 use Rattle.trace_text.proofs.RoomFaults.{lines_split}
 use Rattle.program_text.proofs.Knowing.{names_step, names_done, no_lines}
 use Rattle.program_text.specs.Functions.{function_named, with_function}
-use Rattle.program_text.proofs.text.function_names.Goals as goal
+use Rattle.program_text.proofs.text.note_functions.Goals as goal
 
 pub loop-rest-preserved : goal.loop-rest-preserved
 loop-rest-preserved g c =
