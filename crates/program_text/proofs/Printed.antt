@@ -44,23 +44,12 @@ row_steps row at line next old fed put new e f g h k rest =
     regroup : (old feeds word rest : List ℕ) → (((old ++ feeds) ++ word) ++ 10 ∷ []) ++ rest ≡ old ++ (feeds ++ ((word ++ 10 ∷ []) ++ rest))
     regroup old feeds word rest = simp append_assoc
 
--- the text of a row and the feed behind it are put at once
-pub row_once : (row : Row) (at line next : ℕ) (old fed new : List ℕ) → line ≡ row.line → next ≡ row.line + 1
-    → fed ≡ old ++ replicate {A = ℕ} (line - at) 10 → new ≡ fed ++ (row.text ++ 10 ∷ []) → PrintsRows old at (row ∷ []) new next
-row_once row at line next old fed new e f g h =
-    row_steps row at line next old fed (fed ++ row.text) new e f g refl (h ∙ sym (append_assoc fed row.text (10 ∷ [])))
-
--- the line of a `func`
-pub begin_line : (code : Code) (fed new name parameter : List ℕ) → name ≡ code.name → parameter ≡ code.parameter
-    → new ≡ fed ++ (codes "func " ++ (name ++ 32 ∷ (parameter ++ 10 ∷ []))) → new ≡ fed ++ ((begin_row code).text ++ 10 ∷ [])
-begin_line code fed new name parameter e f g =
-    g ∙ (regroup fed (codes "func") name parameter
-    ∙ (ap (λ (t : List ℕ). fed ++ ((codes "func" ++ 32 ∷ (t ++ 32 ∷ (parameter ++ []))) ++ 10 ∷ [])) e
-    ∙ ap (λ (t : List ℕ). fed ++ ((codes "func" ++ 32 ∷ (code.name ++ 32 ∷ (t ++ []))) ++ 10 ∷ [])) f))
-  where
-    regroup : (fed word name parameter : List ℕ) → fed ++ (word ++ 32 ∷ (name ++ 32 ∷ (parameter ++ 10 ∷ [])))
-        ≡ fed ++ ((word ++ 32 ∷ (name ++ 32 ∷ (parameter ++ []))) ++ 10 ∷ [])
-    regroup fed word name parameter = simp (append_assoc, append-nil)
+-- the words of a `func`
+pub begin_words : (code : Code) (fed new name parameter : List ℕ) → name ≡ code.name → parameter ≡ code.parameter
+    → new ≡ fed ++ (codes "func " ++ (name ++ 32 ∷ parameter)) → new ≡ fed ++ (begin_row code).text
+begin_words code fed new name parameter e f g =
+    g ∙ (ap (λ (t : List ℕ). fed ++ (codes "func" ++ 32 ∷ (t ++ 32 ∷ parameter))) e
+    ∙ ap (λ (t : List ℕ). fed ++ (codes "func" ++ 32 ∷ (code.name ++ 32 ∷ t))) (f ∙ sym (append-nil code.parameter)))
 
 -- rows behind one another
 pub rows_join : (first second : List Row) (old middle new : List ℕ) (at between next : ℕ) → PrintsRows old at first middle between → PrintsRows middle between second new next

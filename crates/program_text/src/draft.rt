@@ -254,6 +254,13 @@ impl<'a, A: Allocator + Copy> Draft<'a, A> {
         }
     }
 
+    /// What a line of a text with these functions is read in.
+    fn scope<'s>(&'s self, names: &'s FunctionNames<'a, A>) -> NameScope<'s, 'a, A>
+        ensures { result ≡ scope_of names.now self.now }
+    {
+        NameScope::new(&self.names, names, self.begun(), self.registers())
+    }
+
     /// What the line with the number `at` of a text with these functions says, in its place or not.
     fn read(
         &self,
@@ -268,8 +275,7 @@ impl<'a, A: Allocator + Copy> Draft<'a, A> {
         let Some(text) = as_text(line) else {
             return Err(fault(at, Cause::NotText));
         };
-        let scope = NameScope::new(&self.names, names, self.begun(), self.registers());
-        match read_line(at, &scope, &mut Words::of_line(text)) {
+        match read_line(at, &self.scope(names), &mut Words::of_line(text)) {
             Ok(item) => Ok(item),
             Err(why) => Err(fault(at, why)),
         }

@@ -16,7 +16,7 @@ use program_lines::{Statement, put_statement};
 use std::alloc::{AllocError, Allocator};
 use std::fmt::Write;
 use text_words::{Mem, Name, Reducer, version_word};
-use trace_text::{put_declarations, put_feeds};
+use trace_text::{put_declarations, put_end, put_feeds};
 
 /// The line of a statement.
 fn statement_line(statement: &Statement) -> u32
@@ -82,8 +82,7 @@ fn put_statement_line<A: Allocator, B: Allocator>(
     put_feeds(out, at, u64::from(line))?;
     let function = named_function(functions, statement);
     put_statement(out, mems, reducers, registers, function, statement)?;
-    out.push_str("\n")?;
-    Ok(u64::from(line) + 1)
+    put_end(out, line)
 }
 
 /// Appends the lines of a body in the same way.
@@ -119,12 +118,12 @@ fn put_begin<A: Allocator, B: Allocator>(
     let name = function.name.as_str();
     let parameter = function.parameter.as_str();
     put_feeds(out, at, u64::from(function.line))?;
-    writeln!(out, "func {name} {parameter}")?;
-    Ok(u64::from(function.line) + 1)
+    write!(out, "func {name} {parameter}")?;
+    put_end(out, function.line)
 }
 
 /// Appends the line of a function's `end` in the same way.
-fn put_end<A: Allocator, B: Allocator>(
+fn put_last<A: Allocator, B: Allocator>(
     out: &mut String<B>,
     at: u64,
     function: &Function<A>,
@@ -132,8 +131,8 @@ fn put_end<A: Allocator, B: Allocator>(
     ensures { IfOk result (λ next. PrintsRows (string_bytes out.old) at (end_row function.now ∷ []) (string_bytes out.new) next) }
 {
     put_feeds(out, at, u64::from(function.end_line))?;
-    out.push_str("end\n")?;
-    Ok(u64::from(function.end_line) + 1)
+    out.push_str("end")?;
+    put_end(out, function.end_line)
 }
 
 /// Appends the lines of a function in the same way.
@@ -154,8 +153,7 @@ fn put_function<A: Allocator, B: Allocator>(
     let registers = function.registers.as_slice();
     let body = function.body.as_slice();
     let end = put_body(out, inside, mems, reducers, functions, registers, body)?;
-    let next = put_end(out, end, function)?;
-    Ok(next)
+    put_last(out, end, function)
 }
 
 /// Appends the lines of the functions in the same way.

@@ -12,7 +12,8 @@ ghost use Rattle.model_bodies.specs.Sound.{IsSound, IsMain, max_functions};
 use crate::function::Functions;
 use crate::text::whole;
 use std::alloc::{AllocError, Allocator};
-use text_words::{Mems, Monoids, Reducers, Shape, TextFault, Version};
+use text_words::{Mems, Reducers, Shape, TextFault, Version};
+use trace_text::shape_of;
 
 /// The meaning of a text, made by [`Program::parse`] alone. Some text means it, its cells are numbered without a gap, and it is sound: its
 /// statements name cells, reducers and functions that there are, their numbers are of 64 bits, each `if` has its `end` and one `else` at
@@ -91,14 +92,6 @@ impl<A: Allocator> Program<A> {
         ensures cells { IfOk result (λ shape. shape.cells ≡ cells_of self.now.mems) }
         ensures monoids { IfOk result (λ shape. shape.monoids ≡ map (λ reducer. reducer.monoid) self.now.reducers) }
     {
-        let cells = self.mems.as_slice().iter().map(|mem| mem.cells).sum();
-        let mut monoids = Vec::new(alloc);
-        for reducer in self.reducers.as_slice() {
-            monoids.push(reducer.monoid)?;
-        }
-        Ok(Shape {
-            cells,
-            monoids: Monoids::new(monoids),
-        })
+        shape_of(alloc, self.mems.as_slice(), self.reducers.as_slice())
     }
 }

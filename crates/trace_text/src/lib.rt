@@ -32,12 +32,12 @@ pub use laws::{meaning_excludes_fault, meaning_or_fault, one_fault, one_meaning,
 pub use pieces::BegunTrace;
 pub use place::{CELLS, end, length, monoid, reducer};
 pub use print::{
-    put_cell, put_declarations, put_feeds, put_memory, put_number, put_reducer, put_request,
-    put_word,
+    put_cell, put_declarations, put_end, put_feeds, put_memory, put_number, put_reducer,
+    put_request, put_word,
 };
 pub use text_words::{
     Act, Cause, Items, Mem, Mems, Monoid, Monoids, NAME_LEN, Name, Named, Names, Reducer, Reducers,
     Request, Shape, TextFault, TraceLine, Version, Words, as_text, both, is_name, monoid_of,
     monoid_word, split_line, version_word, without_return,
 };
-pub use trace::{LINES, REDUCERS, Trace, read_header};
+pub use trace::{LINES, REDUCERS, Trace, read_header, shape_of};

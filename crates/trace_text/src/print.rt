@@ -164,7 +164,7 @@ pub fn put_feeds<A: Allocator>(out: &mut String<A>, from: u64, to: u64) -> Resul
 }
 
 /// Appends the line feed of the line with this number, and gives the number of the line behind it.
-fn put_end<A: Allocator>(out: &mut String<A>, line: u32) -> Result<u64, AllocError>
+pub fn put_end<A: Allocator>(out: &mut String<A>, line: u32) -> Result<u64, AllocError>
     ensures { IfOk result (λ next. (next ≡ line + 1) × (string_bytes out.new ≡ string_bytes out.old ++ 10 ∷ [])) }
 {
     out.push_str("\n")?;

@@ -404,6 +404,23 @@ impl<A: Allocator> Drop for Trace<A> {
     }
 }
 
+/// How many cells these memories have, and the monoids of these reducers.
+pub fn shape_of<A: Allocator>(
+    alloc: A,
+    mems: &[Mem],
+    reducers: &[Reducer],
+) -> Result<Shape<A>, AllocError>
+    requires few { cells_of mems.now ≤ most_cells }
+    ensures cells { IfOk result (λ shape. shape.cells ≡ cells_of mems.now) }
+    ensures monoids { IfOk result (λ shape. shape.monoids ≡ map (λ reducer. reducer.monoid) reducers.now) }
+{
+    let cells = cells_in(mems);
+    match monoids_of(alloc, reducers) {
+        Ok(monoids) => Ok(Shape { cells, monoids }),
+        Err(error) => Err(error),
+    }
+}
+
 impl<A: Allocator + Copy> Trace<A> {
     ghost use Rattle.trace_text.specs.Traces.{contents};
 
@@ -438,10 +455,6 @@ impl<A: Allocator + Copy> Trace<A> {
         ensures cells { IfOk result (λ shape. shape.cells ≡ cells_of self.now.mems) }
         ensures monoids { IfOk result (λ shape. shape.monoids ≡ map (λ reducer. reducer.monoid) self.now.reducers) }
     {
-        let cells = cells_in(self.mems.as_slice());
-        match monoids_of(alloc, self.reducers.as_slice()) {
-            Ok(monoids) => Ok(Shape { cells, monoids }),
-            Err(error) => Err(error),
-        }
+        shape_of(alloc, self.mems.as_slice(), self.reducers.as_slice())
     }
 }
