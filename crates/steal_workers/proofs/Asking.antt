@@ -34,3 +34,7 @@ pub ends_at_join : (result : Result NextStep RunFault) (receipts before : List R
     → IfOk result (λ going. IsAtJoin going → EndsAtJoin receipts)
 ends_at_join (Ok going) receipts before receipt kept meets = λ at. (before, receipt, kept, meets at)
 ends_at_join (Err fault) receipts before receipt kept meets = tt
+
+pub ok_step : {T E : Type 0} (result : Result T E) (P Q : Type 0) → OnOk result P → (P → Q) → OnOk result Q
+ok_step (Ok value) P Q holds step = step holds
+ok_step (Err fault) P Q holds step = tt

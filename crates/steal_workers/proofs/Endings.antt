@@ -1,5 +1,5 @@
 -- Some of those that were to begin.
-use Rattle.std.proofs.Common.{inl, inr, ◌∷◌, ◌++◌, [], List, map, refl, ap}
+use Rattle.std.proofs.Common.{◌≡◌, inl, inr, ◌∷◌, ◌++◌, [], List, map, refl, sym, subst, ap}
 use Rattle.steal_workers.specs.Ending.{AreSomeOf}
 
 -- one more began
@@ -19,3 +19,7 @@ pub some-map : {X Y : Type 0} (f : X → Y) (xs ys : List X) → AreSomeOf xs ys
 some-map f xs [] same = ap (map f) same
 some-map f xs (y ∷ ys) (inl less) = inl (some-map f xs ys less)
 some-map f xs (y ∷ ys) (inr more) = inr (map f more.0, ap (map f) more.1, some-map f more.0 ys more.2)
+
+-- so it is with what is said alike of others
+pub some_map_as : {X Y : Type 0} (f : X → Y) (back xs ys : List X) → map f back ≡ map f xs → AreSomeOf xs ys → AreSomeOf (map f back) (map f ys)
+some_map_as f back xs ys same some = subst (λ said. AreSomeOf said (map f ys)) (sym same) (some-map f xs ys some)

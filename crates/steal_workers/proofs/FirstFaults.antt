@@ -5,8 +5,6 @@ use Rattle.std.proofs.lemmas.List.Elements.{All-head, All-weaker, All-push, Cont
 use Rattle.locked_replay.specs.declared.fault.RunFault.{RunFault}
 use Rattle.locked_replay.specs.declared.fault.RunFault.TheVariants.{Memory}
 use Rattle.steal_workers.specs.Faults.{rank_or_last, refused_thread, IsFirst, IsFirstOf}
-use Rattle.steal_workers.specs.declared.worker.Worker.{Worker}
-use Rattle.steal_workers.specs.Ending.{faults_of}
 
 pub first_more : (faults : List (Option RunFault)) (first other next : Option RunFault) → IsFirstOf faults first → IsFirst first other next → IsFirstOf (faults ++ other ∷ []) next
 first_more faults first other next before more =
@@ -23,9 +21,6 @@ pub none_refused : (all : Bool) (faults : List (Option RunFault)) → IsFirstOf 
 none_refused true faults first = refl
 none_refused false faults first = absurd (omega (arith, All-head (λ fault. 6 ≤ rank_or_last fault) (Some Memory) faults first.1))
 
--- what is first of some workers' faults, as they were looked at, is first of theirs
-pub first_known : {L A : Type 0} (all : Bool) (workers seen : List (Worker L A)) (refused first known : Option RunFault) → seen ≡ workers → refused ≡ refused_thread all → first ≡ known
-    → IsFirstOf (refused ∷ faults_of seen) first → IsFirstOf (refused_thread all ∷ faults_of workers) known
-first_known all workers seen refused first known same told is before =
-    subst (IsFirstOf (refused_thread all ∷ faults_of workers)) is
-    (subst (λ ws. IsFirstOf (refused_thread all ∷ faults_of ws) first) same (subst (λ fault. IsFirstOf (fault ∷ faults_of seen) first) told before))
+-- a fault by itself
+pub first_alone : (fault : Option RunFault) → IsFirstOf (fault ∷ []) fault
+first_alone fault = (inr (Contains-push [] fault), All-push (λ other. rank_or_last fault ≤ rank_or_last other) [] fault (λ k d low. absurd (omega (arith, low))) (omega arith))

@@ -1,10 +1,12 @@
 pub mod Asking
 pub mod Balances
+pub mod Collected
 pub mod Endings
 pub mod FirstFaults
 pub mod Grown
 pub mod Joins
 pub mod Ready
+pub mod Settled
 pub mod Sharing
 pub mod Sums
 pub mod Thefts

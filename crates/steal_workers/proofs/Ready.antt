@@ -1,8 +1,6 @@
 -- Workers that begin, and that have come back.
-use Rattle.std.proofs.Common.{◌≡◌, ◌<◌, ◌+◌, ℕ, Bool, true, List, Result, Ok, Err, [], ◌∷◌, length, get_or, map, set, sym, subst, ap, arith, ◌∙◌}
-use Rattle.std.specs.Prelude.{All, OnOk, IfOk, Vec, vec_len}
-use Rattle.locked_replay.specs.declared.fault.RunFault.{RunFault}
-use Rattle.locked_replay.specs.Logs.{all_receipts, all_asked}
+use Rattle.std.proofs.Common.{◌≡◌, ◌<◌, Bool, List, [], ◌∷◌, length, get_or, map, set, sym, subst, ap, arith, ◌∙◌}
+use Rattle.std.specs.Prelude.{All}
 use Rattle.std.specs.List.{sum_by}
 use Rattle.std.proofs.lemmas.List.{length-map, map-set, get_or-map}
 use Rattle.std.proofs.lemmas.List.Elements.{All-head, All-tail}
@@ -51,19 +49,8 @@ module _ {L A : Type 0} where
   pub same_many : (workers back : List (Worker L A)) → stations_of back ≡ stations_of workers → length back ≡ length workers
   same_many workers back same = omega (arith, ap length same, length-map workers station_of, length-map back station_of)
 
-  pub as_many : (result : Result (Vec (WorkerLog L A) A) RunFault) (all : Bool) (back workers : ℕ) → OnOk result (all ≡ true) → (all ≡ true → back ≡ workers) → IfOk result (λ logs. vec_len logs ≡ back) → IfOk result (λ logs. vec_len logs ≡ workers)
-  as_many (Ok logs) all back workers is same each = each ∙ same is
-  as_many (Err fault) all back workers is same each = tt
-
   pub same_before : (workers back : List (Worker L A)) → stations_of back ≡ stations_of workers → sum_by (λ w. w.before) back ≡ sum_by (λ w. w.before) workers
   same_before workers back same = sym (sum_by-map (λ s. s.before) station_of back) ∙ ap (sum_by (λ s. s.before)) same ∙ sum_by-map (λ s. s.before) station_of workers
-
-  -- what was asked is counted from what the workers had asked before
-  pub counted_as : (result : Result (Vec (WorkerLog L A) A) RunFault) (all : Bool) (back workers : List (Worker L A)) → OnOk result (all ≡ true) → (all ≡ true → stations_of back ≡ stations_of workers)
-      → IfOk result (λ logs. all_asked logs.items ≡ sum_by (λ w. w.before) back + length (all_receipts logs.items))
-      → IfOk result (λ logs. all_asked logs.items ≡ sum_by (λ w. w.before) workers + length (all_receipts logs.items))
-  counted_as (Ok logs) all back workers is same counted = counted ∙ ap (λ before. before + length (all_receipts logs.items)) (same_before workers back (same is))
-  counted_as (Err fault) all back workers is same counted = tt
 
   -- the run's end is seen in the logs as in the workers
   pub same_end : (workers : List (Worker L A)) (logs : List (WorkerLog L A)) → map (λ log. log.receipts) logs ≡ map (λ worker. worker.receipts) workers → some_finished logs ≡ saw_end workers

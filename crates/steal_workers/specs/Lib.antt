@@ -1,4 +1,5 @@
 pub mod Beginning
+pub mod Collecting
 pub mod Ending
 pub mod Faults
 pub mod Goings

@@ -1,5 +1,5 @@
 -- What a worker keeps, and what it does at a request.
-use Rattle.std.specs.Prelude.{◌≡◌, ◌⊎◌, ◌≤◌, ℕ, List, [], ◌∷◌, ◌++◌, map, Some, vec_len, vec_capacity}
+use Rattle.std.specs.Prelude.{◌≡◌, ◌⊎◌, ℕ, List, [], ◌∷◌, ◌++◌, map, Some}
 use Rattle.model_accesses.specs.declared.request.Request.{Request}
 use Rattle.model_histories.specs.declared.answer.Answer.{Answer}
 use Rattle.model_histories.specs.declared.answer.Answer.TheVariants.{Split, Waits, EndedJoined}
@@ -9,7 +9,6 @@ use Rattle.frame_steps.specs.Frames.{IsAfter, CanFollow}
 use Rattle.locked_replay.specs.declared.fault.RunFault.TheVariants.{Torn}
 use Rattle.steal_workers.specs.declared.task.Task.{Task}
 use Rattle.steal_workers.specs.declared.worker.Worker.{Worker}
-use Rattle.steal_workers.specs.declared.joining.Room.{Room}
 use Rattle.steal_workers.specs.StealHandles.{Deque, own_deque, deques_of}
 
 -- the answers at which a task comes to a join, or the last child that ends there
@@ -44,12 +43,6 @@ module _ {L A : Type 0} where
 
   abbrev pub stations_of : List (Worker L A) → List (Station A)
   stations_of = map station_of
-
-  -- room for what so many workers bring back
-  abbrev pub HasRoom : ℕ → Room L A → Type 0
-  HasRoom workers room =
-      (vec_len room.logs ≡ 0) × (vec_len room.owners ≡ 0) × (vec_len room.passes ≡ 0)
-      × (workers ≤ vec_capacity room.logs) × (workers ≤ vec_capacity room.owners) × (workers ≤ vec_capacity room.passes)
 
   -- a join that was met twice shows in what the worker was told last
   abbrev pub TornAtJoin : Worker L A → Type 0

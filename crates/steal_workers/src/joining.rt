@@ -1,85 +1,104 @@
 //! What workers bring back, and the end of their deques.
 
-ghost use Rattle.std.specs.Prelude.{◌≡◌, ◌+◌, ◌≤◌, length, map, vec_len, vec_capacity, IfOk};
-ghost use Rattle.std.specs.List.{sum_by};
+ghost use Rattle.std.specs.Prelude.{◌≡◌, ◌+◌, ℕ, [], None, map, OnOk};
 ghost use Rattle.crossbeam_deque.specs.Handles.{worker_deque, worker_view};
-ghost use Rattle.locked_replay.specs.Logs.{all_receipts, all_asked};
-ghost use Rattle.steal_workers.specs.StealHandles.{deque_of, view_of, views_of, joined_each, joined_all, AllLeadTo};
-ghost use Rattle.steal_workers.specs.Workers.{owns_of, others_of, stations_of, HasRoom};
+ghost use Rattle.steal_workers.specs.StealHandles.{deque_of, views_of, joined_each, joined_all, AllLeadTo};
+ghost use Rattle.steal_workers.specs.Collecting.{HasRoom, Brings, Adds, AreSame, owned, led_to, settled};
 
+use crate::fault::first_of;
 use crate::pass_log::Owner;
 use crate::steal_handle::StealHandle;
 use crate::worker::Worker;
-use locked_replay::WorkerLog;
+use locked_replay::{RunFault, WorkerLog, finished_logs};
 use std::alloc::{AllocError, Allocator, Global};
 use std::sync::ledger::Ledger;
 
-/// Room for what the workers bring back. It is made before the first of them begins, so that their end takes no memory.
-pub struct Room<'p, L: Ledger, A: Allocator = Global> {
+/// What workers have brought back: their logs, the ends of their deques, and the first of their faults.
+pub struct Collection<'p, L: Ledger, A: Allocator = Global> {
     logs: Vec<WorkerLog<L, A>, A>,
     owners: Vec<Owner<'p, A>, A>,
     passes: Vec<Vec<StealHandle<'p, A>, A>, A>,
+    pub(crate) fault: Option<RunFault>,
 }
 
-impl<'p, L: Ledger, A: Allocator> Drop for Room<'p, L, A> {
+impl<'p, L: Ledger, A: Allocator> Drop for Collection<'p, L, A> {
     fn drop(self) {
-        let Room {
+        let Collection {
             logs: _,
             owners: _,
             passes: _,
+            fault: _,
         } = self;
     }
 }
 
-impl<'p, L: Ledger, A: Allocator + Copy> Room<'p, L, A> {
-    /// Room for so many workers.
-    pub fn new(alloc: A, workers: usize) -> Result<Room<'p, L, A>, AllocError>
-        ensures { IfOk result (HasRoom workers) }
+impl<'p, L: Ledger, A: Allocator + Copy> Collection<'p, L, A> {
+    /// What no worker has brought anything to yet.
+    pub fn new(alloc: A) -> Collection<'p, L, A>
+        ensures { Brings None [] result }
     {
-        Ok(Room {
-            logs: Vec::with_capacity(alloc, workers)?,
-            owners: Vec::with_capacity(alloc, workers)?,
-            passes: Vec::with_capacity(alloc, workers)?,
-        })
+        Collection {
+            logs: Vec::new(alloc),
+            owners: Vec::new(alloc),
+            passes: Vec::new(alloc),
+            fault: None,
+        }
     }
 
-    /// The logs of the workers. All passes of each deque go back to its owner, which then knows all that was pushed there and taken.
-    pub fn settle(self, workers: Vec<Worker<'p, L, A>, A>) -> Vec<WorkerLog<L, A>, A>
-        requires room { HasRoom (vec_len workers) self }
-        requires reach { AllLeadTo (owns_of (stations_of workers.items)) (others_of (stations_of workers.items)) }
-        ensures workers { vec_len result ≡ vec_len workers.entry }
-        ensures receipts { map (λ log. log.receipts) result.items ≡ map (λ worker. worker.receipts) workers.entry.items }
-        ensures asked { all_asked result.items ≡ sum_by (λ w. w.before) workers.entry.items + length (all_receipts result.items) }
+    /// Makes room for so many workers more, so that [`Collection::add`] takes no memory.
+    pub fn reserve(&mut self, workers: usize) -> Result<(), AllocError>
+        ensures same { AreSame self.old self.new }
+        ensures room { OnOk result (HasRoom workers self.new) }
     {
-        let Room {
-            mut logs,
-            mut owners,
-            mut passes,
-        } = self;
-        for worker in workers {
-            let (log, owner, reaches) = worker.into_parts();
-            logs.push_reserved(log);
-            owners.push_reserved(owner);
-            passes.push_reserved(reaches);
+        self.logs.reserve(workers)?;
+        self.owners.reserve(workers)?;
+        self.passes.reserve(workers)
+    }
+
+    /// Adds what one more worker brings back.
+    pub fn add(&mut self, worker: Worker<'p, L, A>)
+        requires room { HasRoom 1 self.old }
+        ensures room { (more : ℕ) → HasRoom (more + 1) self.old → HasRoom more self.new }
+        ensures adds { Adds worker.entry self.old self.new }
+    {
+        self.fault = first_of(self.fault, worker.fault);
+        let (log, owner, passes) = worker.into_parts();
+        self.logs.push_reserved(log);
+        self.owners.push_reserved(owner);
+        self.passes.push_reserved(passes);
+    }
+
+    /// What a run answers by what its workers brought back: the first of their faults, where one was met, and otherwise their logs, where
+    /// one of them saw the run's end. Then all passes of each deque go back to its owner, which knows all that was pushed there and taken.
+    pub fn settle(self) -> Result<Vec<WorkerLog<L, A>, A>, RunFault>
+        requires { self.fault ≡ None → AllLeadTo (owned self) (led_to self) }
+        ensures { result ≡ settled self.entry.fault self.entry.logs }
+    {
+        if let Some(fault) = self.fault {
+            return Err(fault);
         }
-        join_all(owners, passes);
-        logs
+        let Collection {
+            logs,
+            mut owners,
+            passes,
+            fault: _,
+        } = self;
+        join_all(&mut owners, passes);
+        finished_logs(logs)
     }
 }
 
 /// All passes go back to the owners of their deques.
 fn join_all<'p, A: Allocator>(
-    owners: Vec<Owner<'p, A>, A>,
+    owners: &mut Vec<Owner<'p, A>, A>,
     passes: Vec<Vec<StealHandle<'p, A>, A>, A>,
-) -> Vec<Owner<'p, A>, A>
-    requires { AllLeadTo (map worker_deque owners.items) (map (λ reaches. map deque_of reaches.items) passes.items) }
-    ensures { map worker_view result.items ≡ joined_all (map worker_view owners.entry.items) (map views_of passes.entry.items) }
+)
+    requires { AllLeadTo (map worker_deque owners.old.items) (map (λ reaches. map deque_of reaches.items) passes.items) }
+    ensures { map worker_view owners.new.items ≡ joined_all (map worker_view owners.old.items) (map views_of passes.entry.items) }
 {
-    let mut owners = owners;
     for reaches in passes {
-        join_each(&mut owners, reaches);
+        join_each(owners, reaches);
     }
-    owners
 }
 
 /// A worker's passes go back to the owners of their deques.

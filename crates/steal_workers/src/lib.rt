@@ -25,7 +25,7 @@ mod worker;
 mod worker_deques;
 
 pub use fault::{first_of, thread_fault_of};
-pub use joining::Room;
+pub use joining::Collection;
 pub use lot::{Lot, LotFault};
 pub use pool::run;
 pub use serial::run_serially;

@@ -1,22 +1,22 @@
 //! Runs of a program by many workers.
 
-ghost use Rattle.std.specs.Prelude.{◌≡◌, ◌+◌, ◌<◌, ◌≤◌, [], ◌∷◌, true, false, length, map, All, IfOk, OnOk, vec_len, vec_capacity};
+ghost use Rattle.std.specs.Prelude.{◌≡◌, ◌+◌, ◌<◌, ◌≤◌, [], true, false, length, map, All, IfOk, OnOk, vec_len, vec_capacity};
 ghost use Rattle.std.specs.List.{sum_by};
 ghost use Rattle.locked_replay.specs.Logs.{all_receipts, all_asked};
-ghost use Rattle.steal_workers.specs.Faults.{IsFirstOf};
 ghost use Rattle.steal_workers.specs.PassLogs.{pass_log};
 ghost use Rattle.steal_workers.specs.StealHandles.{own_deque, own_view, deques_of, AllLeadTo};
-ghost use Rattle.steal_workers.specs.Workers.{station_of, stations_of, owns_of, others_of, HasRoom, TornAtJoin};
+ghost use Rattle.steal_workers.specs.Workers.{station_of, stations_of, TornAtJoin};
 ghost use Rattle.steal_workers.specs.Beginning.{own_hands, HaveRoot, IsReady};
-ghost use Rattle.steal_workers.specs.Ending.{AreSomeOf, IsEnded, IsAnswered, IsTold, faults_of};
+ghost use Rattle.steal_workers.specs.Collecting.{HasRoom, AreSame, Brings, CameBack, Completes};
+ghost use Rattle.steal_workers.specs.Ending.{AreSomeOf, IsAnswered};
 ghost use Rattle.locked_replay.specs.Finishing.{some_finished};
 
-use crate::fault::{first_of, thread_fault_of};
-use crate::joining::Room;
+use crate::fault::thread_fault_of;
+use crate::joining::Collection;
 use crate::lot::Lot;
 use crate::worker::Worker;
 use crate::worker_deques::{WorkerDeques, make_worker_deques};
-use locked_replay::{Ask, RunFault, Seat, WorkerLog, finished_logs};
+use locked_replay::{Ask, RunFault, Seat, WorkerLog};
 use program_text::Program;
 use std::alloc::{AllocError, Allocator, Global};
 use std::snapshot::Snapshot;
@@ -86,6 +86,27 @@ fn hire_each<'p, L: Ledger, A: Allocator + Copy>(
     hired
 }
 
+/// Makes room for the threads of the workers and for what they bring back, and gives the first its task, before any of them begins.
+fn prepare<'p, L: Ledger, A: Allocator + Copy>(
+    alloc: A,
+    program: &'p Program<Global>,
+    hired: &mut Vec<Worker<'p, L, A>, A>,
+    running: &mut Vec<Running<'p, L, A>, A>,
+    back: &mut Collection<'p, L, A>,
+) -> Result<(), AllocError>
+    requires { IsReady hired.old.items }
+    ensures workers { OnOk result (vec_len hired.new ≡ vec_len hired.old) }
+    ensures stations { OnOk result (stations_of hired.new.items ≡ stations_of hired.old.items) }
+    ensures root { OnOk result (HaveRoot (own_hands hired.new.items)) }
+    ensures running { OnOk result ((running.new.items ≡ running.old.items) × (vec_len running.new ≡ vec_len running.old)
+        × (vec_len running.new + vec_len hired.old ≤ vec_capacity running.new)) }
+    ensures back { OnOk result (AreSame back.old back.new × HasRoom (vec_len hired.old) back.new) }
+{
+    running.reserve(hired.len())?;
+    back.reserve(hired.len())?;
+    hired[0].begin(alloc, program)
+}
+
 /// Starts the workers, and says whether all of them could be started. Where one could not, the run is over.
 fn start<
     's,
@@ -102,14 +123,15 @@ fn start<
     hired: Vec<Worker<'p, L, A>, A>,
     gate: &'s G,
     lot: &'s Lot<'p, A>,
-) -> Result<(Vec<Running<'p, L, A>, A>, bool), AllocError>
-    requires { HaveRoot (own_hands hired.items) }
-    ensures hired { IfOk result (λ r. r.1 ≡ true → map (λ h. h.promise.0.value) r.0.items ≡ hired.entry.items) }
-    ensures some { IfOk result (λ r. AreSomeOf (map (λ h. h.promise.0.value) r.0.items) hired.entry.items) }
-    ensures at_most { IfOk result (λ r. vec_len r.0 ≤ vec_len hired.entry) }
-    ensures fewer { IfOk result (λ r. r.1 ≡ false → vec_len r.0 < vec_len hired.entry) }
+    running: &mut Vec<Running<'p, L, A>, A>,
+) -> bool
+    requires root { HaveRoot (own_hands hired.items) }
+    requires room { (running.old.items ≡ []) × (vec_len running.old ≡ 0) × (vec_len hired ≤ vec_capacity running.old) }
+    ensures hired { result ≡ true → map (λ h. h.promise.0.value) running.new.items ≡ hired.entry.items }
+    ensures some { AreSomeOf (map (λ h. h.promise.0.value) running.new.items) hired.entry.items }
+    ensures at_most { vec_len running.new ≤ vec_len hired.entry }
+    ensures fewer { result ≡ false → vec_len running.new < vec_len hired.entry }
 {
-    let mut running = Vec::with_capacity(alloc, hired.len())?;
     let mut all = true;
     for worker in hired {
         let before = IdleWorker(Snapshot::of(&worker));
@@ -122,10 +144,10 @@ fn start<
             }
         }
     }
-    Ok((running, all))
+    all
 }
 
-/// What a run answers whose workers are started and joined here. Room for what they bring back is made before the first of them begins.
+/// What a run answers whose workers are started and joined here.
 fn run_workers<
     's,
     'p: 's,
@@ -144,70 +166,29 @@ fn run_workers<
     lot: &'s Lot<'p, A>,
 ) -> Result<Vec<WorkerLog<L, A>, A>, RunFault>
     requires { IsReady hired.items }
-    ensures one_each { IfOk result (λ logs. vec_len logs ≡ vec_len hired.entry) }
-    ensures counted { IfOk result (λ logs.
-        all_asked logs.items ≡ sum_by (λ w. w.before) hired.entry.items + length (all_receipts logs.items)) }
-    ensures finished { IfOk result (λ logs. some_finished logs.items ≡ true) }
-    ensures ended { IsEnded hired.entry.items result }
+    ensures { Completes hired.entry.items result }
 {
-    let back = Vec::with_capacity(alloc, hired.len())?;
-    let room = Room::new(alloc, hired.len())?;
-    hired[0].begin(alloc, program)?;
-    let (running, all) = start(rt, alloc, scope, hired, gate, lot)?;
-    collect_logs(join_workers(rt, running, back), all, room)
+    let mut running = Vec::new(alloc);
+    let mut back = Collection::new(alloc);
+    prepare(alloc, program, &mut hired, &mut running, &mut back)?;
+    back.fault = thread_fault_of(start(rt, alloc, scope, hired, gate, lot, &mut running));
+    join_workers(rt, running, &mut back);
+    back.settle()
 }
 
-/// Waits for the workers, which come back in their order.
-fn join_workers<'p, L: Ledger, A: Allocator, R: Threads>(
+/// Waits for the workers, which come back in their order, and collects what they bring.
+fn join_workers<'p, L: Ledger, A: Allocator + Copy, R: Threads>(
     rt: &R,
     running: Vec<Running<'p, L, A>, A>,
-    mut back: Vec<Worker<'p, L, A>, A>,
-) -> Vec<Worker<'p, L, A>, A>
-    requires room { vec_len back + vec_len running ≤ vec_capacity back }
-    requires empty { vec_len back ≡ 0 }
-    ensures stations { stations_of result.items ≡ stations_of (map (λ h. h.promise.0.value) running.entry.items) }
-    ensures torn { All TornAtJoin result.items }
+    back: &mut Collection<'p, L, A>,
+)
+    requires room { HasRoom (vec_len running) back.old }
+    requires none { Brings back.old.fault [] back.old }
+    ensures { CameBack (map (λ h. h.promise.0.value) running.entry.items) back.old.fault back.new }
 {
     for thread in running {
-        back.push_reserved(thread.join(rt));
+        back.add(thread.join(rt));
     }
-    back
-}
-
-/// The first of the workers' faults, or of this one.
-fn first_fault<'p, L: Ledger, A: Allocator>(
-    refused: Option<RunFault>,
-    workers: &[Worker<'p, L, A>],
-) -> Option<RunFault>
-    ensures { IsFirstOf (refused ∷ faults_of workers.now) result }
-{
-    let mut first = refused;
-    for worker in workers {
-        first = first_of(first, worker.fault);
-    }
-    first
-}
-
-/// What a run answers whose workers came back so: the first of their faults, where one met any or a thread could not be started, and
-/// otherwise their logs, where one of them saw the run's end.
-fn collect_logs<'p, L: Ledger, A: Allocator + Copy>(
-    workers: Vec<Worker<'p, L, A>, A>,
-    all: bool,
-    room: Room<'p, L, A>,
-) -> Result<Vec<WorkerLog<L, A>, A>, RunFault>
-    requires ready { all ≡ true →
-        HasRoom (vec_len workers) room × AllLeadTo (owns_of (stations_of workers.items)) (others_of (stations_of workers.items)) }
-    ensures told { IsTold all workers.entry.items result }
-    ensures all { OnOk result (all ≡ true) }
-    ensures one_each { IfOk result (λ logs. vec_len logs ≡ vec_len workers.entry) }
-    ensures counted { IfOk result (λ logs.
-        all_asked logs.items ≡ sum_by (λ w. w.before) workers.entry.items + length (all_receipts logs.items)) }
-    ensures finished { IfOk result (λ logs. some_finished logs.items ≡ true) }
-{
-    if let Some(fault) = first_fault(thread_fault_of(all), workers.as_slice()) {
-        return Err(fault);
-    }
-    finished_logs(room.settle(workers))
 }
 
 /// What a run by these workers answers. It is apart from [`run`], since no closure gets a proof that captures a reference to a local of its
@@ -227,21 +208,14 @@ fn run_in_scope<
     lot: &Lot<'p, A>,
 ) -> Result<Vec<WorkerLog<L, A>, A>, RunFault>
     requires { IsReady hired.items }
-    ensures one_each { IfOk result (λ logs. vec_len logs ≡ vec_len hired.entry) }
-    ensures counted { IfOk result (λ logs.
-        all_asked logs.items ≡ sum_by (λ w. w.before) hired.entry.items + length (all_receipts logs.items)) }
-    ensures finished { IfOk result (λ logs. some_finished logs.items ≡ true) }
-    ensures ended { IsEnded hired.entry.items result }
+    ensures { Completes hired.entry.items result }
 {
     thread::scope(
         thread::scope_env(),
         rt,
         move |scope| -> Result<Vec<WorkerLog<L, A>, A>, RunFault>
             requires { IsReady hired.items }
-            ensures logs { IfOk result (λ logs. (vec_len logs ≡ vec_len hired.entry)
-                × (all_asked logs.items ≡ sum_by (λ w. w.before) hired.entry.items + length (all_receipts logs.items))
-                × (some_finished logs.items ≡ true)) }
-            ensures ended { IsEnded hired.entry.items result }
+            ensures { Completes hired.entry.items result }
         { run_workers(rt, alloc, scope, program, hired, gate, lot) },
     )
 }

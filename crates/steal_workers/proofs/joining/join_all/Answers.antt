@@ -26,8 +26,8 @@ loop-reaches-preserved g c =
 pub loop-reaches-init : goal.loop-reaches-init
 loop-reaches-init g c =
     let given = c.into_iter-reaches-iterator.ensures.into_iter_gives.0 in record {
-      lead = subst (λ items. AllLeadTo (map worker_deque c.args.owners.items) (map (λ reaches. map deque_of reaches.items) items)) (sym given) c.requires;
-      views = ap (λ items. joined_all (map worker_view c.args.owners.items) (map views_of items)) given;
+      lead = subst (λ items. AllLeadTo (map worker_deque c.args.owners.now.items) (map (λ reaches. map deque_of reaches.items) items)) (sym given) c.requires;
+      views = ap (λ items. joined_all (map worker_view c.args.owners.now.items) (map views_of items)) given;
     }
 
 pub returns : goal.returns

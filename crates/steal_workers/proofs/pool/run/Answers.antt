@@ -1,12 +1,13 @@
-use Rattle.std.proofs.Common.{rules, ◌≡◌, ◌+◌, ℕ, List, Result, inl, inr, length, subst, arith, ◌∙◌}
-use Rattle.std.specs.Prelude.{IfOk, Vec, vec_len}
-use Rattle.locked_replay.specs.Logs.{all_receipts, all_asked}
+use Rattle.std.proofs.Common.{rules, ◌≡◌, ◌+◌, ℕ, List, Result, inl, inr, length, ap, arith, ◌∙◌}
+use Rattle.std.specs.Prelude.{Vec}
+use Rattle.locked_replay.specs.Logs.{all_receipts}
 use Rattle.std.specs.List.{sum_by}
 use Rattle.locked_replay.specs.declared.fault.RunFault.{RunFault}
 use Rattle.locked_replay.specs.declared.worker.WorkerLog.{WorkerLog}
 use Rattle.steal_workers.specs.declared.worker.Worker.{Worker}
 use Rattle.steal_workers.specs.Beginning.{IsReady}
 use Rattle.steal_workers.specs.Ending.{IsEnded, IsAnswered}
+use Rattle.steal_workers.proofs.Asking.{if_ok}
 use Rattle.steal_workers.proofs.pool.run.Goals as goal
 
 answered : {L A : Type 0} (workers asked : ℕ) (hired : List (Worker L A)) (result : Result (Vec (WorkerLog L A) A) RunFault) → length hired ≡ workers → sum_by (λ w. w.before) hired ≡ asked → IsReady hired
@@ -37,18 +38,17 @@ returns-in_err-hired-clause-answered g c = inl (search rules)
 
 pub returns-clause-one_each : goal.returns-clause-one_each
 returns-clause-one_each g c =
-    subst (λ many. IfOk c.run_in_scope.result (λ logs. vec_len logs ≡ many)) (c.in_ok-hired.ensures.workers ∙ c.in_ok-make_worker_deques.ensures.workers)
-    c.run_in_scope.ensures.one_each
+    let hired = c.in_ok-hired.hired in
+    if_ok c.run_in_scope.result _ _ c.run_in_scope.ensures.0 (λ logs full. full.0 ∙ omega (arith, c.in_ok-hired.ensures.workers, c.in_ok-make_worker_deques.ensures.workers, hired.ok.0))
 
 pub returns-clause-counted : goal.returns-clause-counted
 returns-clause-counted g c =
-    subst (λ asked. IfOk c.run_in_scope.result (λ logs. all_asked logs.items ≡ asked + length (all_receipts logs.items))) c.in_ok-hired.ensures.before
-    c.run_in_scope.ensures.counted
+    if_ok c.run_in_scope.result _ _ c.run_in_scope.ensures.0 (λ logs full. full.1 ∙ ap (λ asked. asked + length (all_receipts logs.items)) c.in_ok-hired.ensures.before)
 
 pub returns-clause-finished : goal.returns-clause-finished
-returns-clause-finished g c = c.run_in_scope.ensures.finished
+returns-clause-finished g c = if_ok c.run_in_scope.result _ _ c.run_in_scope.ensures.0 (λ logs full. full.2)
 
 pub returns-clause-answered : goal.returns-clause-answered
 returns-clause-answered g c =
     let hired = c.in_ok-hired.hired in
-    answered _ _ hired.items c.run_in_scope.result (omega (arith, c.in_ok-hired.ensures.workers, c.in_ok-make_worker_deques.ensures.workers, hired.ok.0)) c.in_ok-hired.ensures.before c.in_ok-hired.ensures.ready c.run_in_scope.ensures.ended
+    answered _ _ hired.items c.run_in_scope.result (omega (arith, c.in_ok-hired.ensures.workers, c.in_ok-make_worker_deques.ensures.workers, hired.ok.0)) c.in_ok-hired.ensures.before c.in_ok-hired.ensures.ready c.run_in_scope.ensures.1

@@ -55,12 +55,12 @@ returns-clause-fewer g c refused = omega (arith, c.loop-worker.invariant.fewer r
 pub loop-worker-init : goal.loop-worker-init
 loop-worker-init g c =
     let began = λ (h : PromisedHandle (Worker g.row.L.Denot g.row.A.Denot) (IdleWorker g.row.L.Denot g.row.A.Denot)). h.promise.0.value in
-    let made = c.in_ok-running.ensures in
+    let made = c.requires.room in
     let left = c.into_iter-worker-iterator.ensures.into_iter_gives.1 in record {
-      room = omega (arith, made.len, made.exact, c.len.ensures, left);
-      at_most = omega (arith, made.len, left);
-      hired = λ all. ap (map began) made.items;
-      some = ap (map began) made.items;
+      room = omega (arith, made.1, made.2, left);
+      at_most = omega (arith, made.1, left);
+      hired = λ all. ap (map began) made.0;
+      some = ap (map began) made.0;
       fewer = λ refused. absurd (cc);
     }
 
