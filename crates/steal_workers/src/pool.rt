@@ -55,12 +55,12 @@ fn hire<'p, L: Ledger, A: Allocator + Copy>(
     ensures ready { IfOk result (λ hired. IsReady hired.items) }
     ensures before { IfOk result (λ hired. sum_by (λ w. w.before) hired.items ≡ seat.asked) }
 {
-    let room = Vec::with_capacity(alloc, ends.len())?;
+    let mut hired = Vec::with_capacity(alloc, ends.len())?;
     let mut ends = ends;
     let Some(last) = ends.pop() else {
         unreachable!()
     };
-    let mut hired = hire_each(alloc, ends, &mut seat, room);
+    hire_each(alloc, ends, &mut seat, &mut hired);
     hired.push_reserved(Worker::new(alloc, seat, last));
     Ok(hired)
 }
@@ -70,20 +70,19 @@ fn hire_each<'p, L: Ledger, A: Allocator + Copy>(
     alloc: A,
     ends: Vec<WorkerDeques<'p, A>, A>,
     seat: &mut Seat<L>,
-    mut hired: Vec<Worker<'p, L, A>, A>,
-) -> Vec<Worker<'p, L, A>, A>
+    hired: &mut Vec<Worker<'p, L, A>, A>,
+)
     requires parts { vec_len ends < seat.old.parts }
-    requires room { vec_len hired + vec_len ends < vec_capacity hired }
-    requires empty { vec_len hired ≡ 0 }
-    ensures room { vec_len result < vec_capacity result }
-    ensures ends { map (λ w. w.ends) result.items ≡ ends.entry.items }
-    ensures before { sum_by (λ w. w.before) result.items ≡ 0 }
+    requires room { vec_len hired.old + vec_len ends < vec_capacity hired.old }
+    requires empty { vec_len hired.old ≡ 0 }
+    ensures room { vec_len hired.new < vec_capacity hired.new }
+    ensures ends { map (λ w. w.ends) hired.new.items ≡ ends.entry.items }
+    ensures before { sum_by (λ w. w.before) hired.new.items ≡ 0 }
     ensures asked { seat.new.asked ≡ seat.old.asked }
 {
     for it in ends {
         hired.push_reserved(Worker::new(alloc, seat.split(), it));
     }
-    hired
 }
 
 /// Makes room for the threads of the workers and for what they bring back, and gives the first its task, before any of them begins.

@@ -44,8 +44,8 @@ fn enter_child<'p, A: Allocator + Copy>(
     let Some(target) = target else {
         return Err(RunFault::Strange);
     };
-    let child = Task::for_child(alloc, spawner.program, child, target, spare)?;
     waiting.reserve(1)?;
+    let child = Task::for_child(alloc, spawner.program, child, target, spare)?;
     waiting.push_reserved(spawner.on(next));
     Ok(child)
 }

@@ -21,7 +21,7 @@ loop-it-preserved g c =
 
 pub loop-it-init : goal.loop-it-init
 loop-it-init g c =
-    let none : c.args.hired.items ≡ [] = nil_from_length c.args.hired.items (omega (arith, c.requires.empty, c.args.hired.ok.0)) in
+    let none : c.args.hired.now.items ≡ [] = nil_from_length c.args.hired.now.items (omega (arith, c.requires.empty, c.args.hired.now.ok.0)) in
     let left = c.into_iter-it-iterator.ensures.into_iter_gives.1 in record {
       room = omega (arith, left, c.requires.room);
       parts = omega (arith, left, c.requires.parts);
