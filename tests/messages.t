@@ -150,3 +150,15 @@ A version that there is not, with such a line below it.
     |      ^
     = help: write `cilk 1`, or `cilk 2` for `bump`, `pfor` and `digits`
   [2]
+
+No `main`, painted as on a terminal. With ten lines the column of numbers is wider.
+
+  $ printf 'cilk 1\n\n\n\n\n\n\n\nfunc f z\nend\n' > p.cilk
+  $ cilkcheck explain p.cilk --color always
+  \x1b[1;31merror\x1b[0m: there is no function `main` (esc)
+    \x1b[1;34m-->\x1b[0m p.cilk:11 (esc)
+    \x1b[1;34m |\x1b[0m (esc)
+  \x1b[1;34m11 |\x1b[0m\x20 (esc)
+    \x1b[1;34m |\x1b[0m \x1b[1;31m\x1b[0m (esc)
+    \x1b[1;34m =\x1b[0m help: add the function with which the program begins: `func main z` (esc)
+  [2]

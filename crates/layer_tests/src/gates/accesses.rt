@@ -120,18 +120,6 @@ fn finds_anew(alloc: Global, acts: &[Found]) -> bool {
     }
 }
 
-/// Of how many runs it is so, up to the first of which it is not.
-fn found(alloc: Global, runs: &[&[Found]]) -> usize {
-    let mut count = 0usize;
-    for acts in runs {
-        if !finds_anew(alloc, acts) {
-            break;
-        }
-        count = count.wrapping_add(1);
-    }
-    count
-}
-
 /// A bump, write or read by a child, and another access by its continuation, which finds the first or nothing. In another cell it finds
 /// nothing.
 macro_rules! pair {
@@ -212,7 +200,9 @@ const RUNS: &[&[Found]] = &[
 
 #[test]
 fn an_access_finds_the_access_that_it_races_with(rt: HostRuntime) {
-    equal(&rt, &"runs", &found(rt.alloc(), RUNS), &RUNS.len());
+    for (place, acts) in RUNS.iter().enumerate() {
+        equal(&rt, &place, &finds_anew(rt.alloc(), acts), &true);
+    }
 }
 
 /// The bytes that the shadow history of so many locations takes from a heap of so many bytes: 0 where it is refused, and none without a

@@ -50,37 +50,15 @@ type Outcome = (Request, Result<Receipt, GateFault>);
 /// A list of requests, and the reply to each.
 type Listed<'a> = (&'a [Request], &'a [Reply]);
 
-/// How many entries a gate has, whether it has finished, and the number in its first cell.
+/// How many entries a gate has, whether it has finished, and the number in its cell.
 type End = (usize, bool, u64);
 
-/// What a new gate is asked.
-#[derive(Clone, Copy)]
-enum Asks<'a> {
-    Nothing,
-    /// Each request of the list has its reply, and then the gate has this end.
-    List(Listed<'a>, End),
-    /// What has a fault, fault by fault.
-    Faults,
-}
-
-/// Whether a new gate is and answers as it is to be. There is memory for it.
-fn goes(alloc: Global, gate: &mut Gate<Global>, asks: Asks<'_>) -> bool {
-    match asks {
-        Asks::Nothing => is_new(gate),
-        Asks::List(listed, end) => replies_to(alloc, gate, listed) && ends(gate, end),
-        Asks::Faults => answers_faults(gate),
-    }
-}
-
-/// The same of a gate of its own, with this limit.
-fn goes_anew(alloc: Global, limit: u32, asks: Asks<'_>) -> bool {
-    if limit > 1_000_000 {
-        return false;
-    }
-    match opening(alloc, limit) {
-        Ok(mut gate) => goes(alloc, &mut gate, asks),
-        Err(_) => false,
-    }
+/// What a new gate is asked with this limit: one request after another, and then a list. Its end stays when it is stopped.
+struct Case {
+    limit: u32,
+    outcomes: &'static [Outcome],
+    listed: Listed<'static>,
+    end: End,
 }
 
 /// Whether the gate makes of each request what stands beside it.
@@ -93,16 +71,49 @@ fn judges(gate: &mut Gate<Global>, outcomes: &[Outcome]) -> bool {
     true
 }
 
-/// Whether the gate has so many entries, is finished or not, and is stopped or not.
-fn stands(gate: &Gate<Global>, entries: usize, is_finished: bool, is_stopped: bool) -> bool {
-    gate.history().len() == entries
-        && gate.is_finished() == is_finished
-        && gate.is_stopped() == is_stopped
+/// Whether the gate replies so to the requests, one to each.
+fn replies_to(alloc: Global, gate: &mut Gate<Global>, listed: Listed<'_>) -> bool {
+    match judge_all(gate, alloc, listed.0) {
+        Ok(replies) => replies.as_slice() == listed.1,
+        Err(_) => false,
+    }
 }
 
-/// Whether the gate has one cell and the limit 7, and was asked nothing.
-fn is_new(gate: &Gate<Global>) -> bool {
-    ends(gate, (0, false, 0)) && gate.limit() == 7 && gate.shape().cells == 1
+/// Whether the gate has its end, its limit and one cell, and is stopped or not.
+fn ends(gate: &Gate<Global>, case: &Case, is_stopped: bool) -> bool {
+    let (entries, is_finished, number) = case.end;
+    gate.history().len() == entries
+        && gate.is_finished() == is_finished
+        && gate.memory() == [number].as_slice()
+        && gate.is_stopped() == is_stopped
+        && gate.limit() == case.limit
+        && gate.shape().cells == 1
+}
+
+/// What a stopped gate makes of a request.
+const STOPPED: &[Outcome] = &[(asked!(0, Sync), Err(GateFault::Stopped))];
+
+/// Whether the gate answers as it is to, and has its end. There is memory for it.
+fn goes(alloc: Global, gate: &mut Gate<Global>, case: &Case) -> bool {
+    if !(judges(gate, case.outcomes)
+        && replies_to(alloc, gate, case.listed)
+        && ends(gate, case, false))
+    {
+        return false;
+    }
+    gate.stop();
+    judges(gate, STOPPED) && ends(gate, case, true)
+}
+
+/// The same of a gate of its own.
+fn goes_anew(alloc: Global, case: &Case) -> bool {
+    if case.limit > 1_000_000 {
+        return false;
+    }
+    match opening(alloc, case.limit) {
+        Ok(mut gate) => goes(alloc, &mut gate, case),
+        Err(_) => false,
+    }
 }
 
 /// The first fault of each request, by a gate of the limit 2.
@@ -128,31 +139,6 @@ const FAULTS: &[Outcome] = &[
     (asked!(2, Read(0)), Ok(receipt!(2, 2, Read(0), Value(0)))),
     (asked!(9, Read(1)), Err(GateFault::Limit)),
 ];
-
-/// What a stopped gate makes of a request.
-const STOPPED: &[Outcome] = &[(asked!(0, Sync), Err(GateFault::Stopped))];
-
-/// Whether a gate of the limit 2 answers by the first fault of each request.
-fn answers_faults(gate: &mut Gate<Global>) -> bool {
-    if !judges(gate, FAULTS) {
-        return false;
-    }
-    gate.stop();
-    judges(gate, STOPPED) && stands(gate, 2, false, true)
-}
-
-/// Whether the gate replies so to the requests, one to each.
-fn replies_to(alloc: Global, gate: &mut Gate<Global>, listed: Listed<'_>) -> bool {
-    match judge_all(gate, alloc, listed.0) {
-        Ok(replies) => replies.as_slice() == listed.1,
-        Err(_) => false,
-    }
-}
-
-/// Whether the gate has so many entries, has finished or not, is not stopped, and holds this number.
-fn ends(gate: &Gate<Global>, end: End) -> bool {
-    stands(gate, end.0, end.1, false) && gate.memory() == [end.2].as_slice()
-}
 
 /// Four writes, by a gate of the limit 3.
 const WRITES: Listed<'static> = (
@@ -189,22 +175,41 @@ fn laws_hold() {
     laws::examples_law();
 }
 
-/// Gates with these limits.
-const GATES: &[(u32, Asks<'static>)] = &[
+const CASES: &[Case] = &[
     // A gate begins without entries.
-    (7, Asks::Nothing),
+    Case {
+        limit: 7,
+        outcomes: &[],
+        listed: (&[], &[]),
+        end: (0, false, 0),
+    },
     // Faults come in their order.
-    (2, Asks::Faults),
+    Case {
+        limit: 2,
+        outcomes: FAULTS,
+        listed: (&[], &[]),
+        end: (2, false, 0),
+    },
     // A list has one reply to each request.
-    (3, Asks::List(WRITES, (3, false, 3))),
+    Case {
+        limit: 3,
+        outcomes: &[],
+        listed: WRITES,
+        end: (3, false, 3),
+    },
     // The root function finishes.
-    (1_000_000, Asks::List(RETURNS, (2, true, 0))),
+    Case {
+        limit: 1_000_000,
+        outcomes: &[],
+        listed: RETURNS,
+        end: (2, true, 0),
+    },
 ];
 
 #[test]
 fn a_gate_enters_from_its_begin_to_its_limit_or_end(rt: HostRuntime) {
     laws_hold();
-    for (limit, asks) in GATES {
-        equal(&rt, limit, &goes_anew(rt.alloc(), *limit, *asks), &true);
+    for case in CASES {
+        equal(&rt, &case.limit, &goes_anew(rt.alloc(), case), &true);
     }
 }

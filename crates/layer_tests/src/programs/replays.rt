@@ -12,20 +12,10 @@ const PAIR: &[u8] =
 
 const ENDLESS: &[u8] = b"cilk 1\nfunc main z\ncall main 0\nend\n";
 
-// Whether the replay of these entries of a program's run is so.
-fn replays(
-    alloc: Global,
-    program: &Program<Global>,
-    entries: &[Entry],
-    wanted: Result<(), ReplayFault>,
-) -> bool {
-    replay(alloc, program, entries) == wanted
-}
-
-// The same of the program that a text means.
+// Whether the replay of these entries as a run of the program that a text means is so.
 fn gives(alloc: Global, text: &[u8], entries: &[Entry], wanted: Result<(), ReplayFault>) -> bool {
     match Program::parse(alloc, text) {
-        Ok(program) => replays(alloc, &program, entries, wanted),
+        Ok(program) => replay(alloc, &program, entries) == wanted,
         Err(_) => false,
     }
 }
@@ -109,10 +99,6 @@ fn a_run_is_replayed(rt: HostRuntime) {
     for (text, entries, wanted) in CASES {
         assert!(rt; gives(rt.alloc(), text, entries, *wanted), "{wanted:?}");
     }
-}
-
-#[test]
-fn each_entry_is_compared(rt: HostRuntime) {
     for (place, entry) in STRANGE {
         assert!(rt; is_strange(rt.alloc(), *place, *entry), "at {place}");
     }

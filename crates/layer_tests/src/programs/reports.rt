@@ -75,14 +75,6 @@ pub fn is_reported(alloc: Global, program: &Program<Global>, whole: &Whole, want
     }
 }
 
-/// Whether this is the report of what the gate of this program keeps.
-fn is_told(alloc: Global, program: &Program<Global>, gate: ShortGate, wanted: &str) -> bool
-    requires { gate.shape ≡ shape_known (contents program.now).known }
-{
-    let whole = whole_of(program, gate);
-    is_reported(alloc, program, &whole, wanted)
-}
-
 /// Whether this is the report of what a gate of this program answers to these requests.
 fn is_report(
     alloc: Global,
@@ -94,7 +86,8 @@ fn is_report(
     if !answers(&mut gate, requests) {
         return Ok(false);
     }
-    Ok(is_told(alloc, program, gate, wanted))
+    let whole = whole_of(program, gate);
+    Ok(is_reported(alloc, program, &whole, wanted))
 }
 
 /// The same of the program of this text.

@@ -26,16 +26,6 @@ const RESULTS: [(Expression, u64); 6] = [
     (of_two!(Less, 2, 2), 0),
 ];
 
-#[test]
-fn arithmetic_is_modulo_two_to_the_64(rt: HostRuntime) {
-    for (expression, wanted) in RESULTS {
-        assert!(rt;
-            result_of(&[0; REGISTERS], expression) == wanted,
-            "{wanted}"
-        );
-    }
-}
-
 /// The element of an array of four cells, the first of which is cell 5.
 macro_rules! element {
     ($index:literal) => {
@@ -51,7 +41,13 @@ macro_rules! element {
 const CELLS: [(Location, u32); 3] = [(Location::Cell(3), 3), (element!(3), 8), (element!(6), 7)];
 
 #[test]
-fn an_index_is_modulo_the_length(rt: HostRuntime) {
+fn arithmetic_is_modulo_two_to_the_64_and_an_index_modulo_the_length(rt: HostRuntime) {
+    for (expression, wanted) in RESULTS {
+        assert!(rt;
+            result_of(&[0; REGISTERS], expression) == wanted,
+            "{wanted}"
+        );
+    }
     for (location, wanted) in CELLS {
         assert!(rt; cell_of(&[0; REGISTERS], location) == wanted, "{wanted}");
     }
@@ -60,13 +56,6 @@ fn an_index_is_modulo_the_length(rt: HostRuntime) {
 /// Whether the registers begin with these two numbers.
 fn begin(registers: &[u64; REGISTERS], ok: u64, argument: u64) -> bool {
     registers[0] == ok && registers[1] == argument
-}
-
-#[test]
-fn a_function_begins_with_ok_and_its_argument(rt: HostRuntime) {
-    let begun = Activation::begin(3, 7);
-    assert!(rt; begun.function == 3 && begun.place == 0 && begun.join == None);
-    assert!(rt; begin(&begun.registers, 1, 7) && begun.registers[2] == 0);
 }
 
 const WRITE: Statement = Statement::Write {
@@ -97,8 +86,10 @@ fn are_answered() -> bool {
 }
 
 #[test]
-fn a_refused_write_clears_ok(rt: HostRuntime) {
-    let begun = Activation::begin(0, 7);
+fn a_function_begins_with_ok_and_a_refused_write_clears_it(rt: HostRuntime) {
+    let begun = Activation::begin(3, 7);
+    assert!(rt; begun.function == 3 && begun.place == 0 && begun.join == None);
+    assert!(rt; begin(&begun.registers, 1, 7) && begun.registers[2] == 0);
     assert!(rt; act_of(&begun.registers, WRITE) == Some(Act::Write(2, 9)) && line_of(WRITE) == 4);
     assert!(rt; are_answered());
 }

@@ -206,29 +206,6 @@ fn come<'p, R: Wait>(
     }
 }
 
-// The row of a lot: whether each that comes finds what stands beside it.
-fn come_for_joins<'p, R: Wait>(
-    rt: &R,
-    alloc: Global,
-    program: &'p Program<Global>,
-    lot: &Lot<'p>,
-    row: &[(Comes, Finds)],
-) -> bool {
-    for (comes, finds) in row {
-        if !come(rt, alloc, program, lot, *comes, *finds) {
-            return false;
-        }
-    }
-    true
-}
-
-// Whether a lot is closed once it is told to be, and not before.
-fn is_closed_at_last<R: Wait>(rt: &R, lot: &Lot<'_>) -> bool {
-    let early = lot.look(rt);
-    lot.close(rt);
-    lot.look(rt) && !early
-}
-
 const ROW: &[(Comes, Finds)] = &[
     (Comes::Child(3), Finds::Nobody),
     (Comes::Task(3), Finds::TaskOf(3)),
@@ -246,10 +223,18 @@ const ROW: &[(Comes, Finds)] = &[
     (Comes::Task(4_200_000), Finds::TaskOf(4_200_000)),
 ];
 
-// Whether the row of a lot of the program is so, and the lot is closed at last.
+// Whether each that comes for a join of a lot of the program finds what stands beside it in the row. The lot is closed once it is told to be,
+// and not before.
 fn come_for_row<R: Wait>(rt: &R, alloc: Global, program: &Program<Global>) -> bool {
     let lot = Lot::new(alloc);
-    come_for_joins(rt, alloc, program, &lot, ROW) && is_closed_at_last(rt, &lot)
+    for (comes, finds) in ROW {
+        if !come(rt, alloc, program, &lot, *comes, *finds) {
+            return false;
+        }
+    }
+    let early = lot.look(rt);
+    lot.close(rt);
+    lot.look(rt) && !early
 }
 
 #[test]

@@ -1,6 +1,5 @@
 //! Strands as they are told apart, numbered and joined.
 
-use crate::checks::equal;
 use sp_labels::{Returned, SpFault, Spawned, Strands, Synced};
 use std::alloc::Global;
 use std::process::Abort;
@@ -118,27 +117,12 @@ fn goes(strands: &mut Strands<Global>, step: Step) -> bool {
     }
 }
 
-/// How many of the steps have their outcomes, one after another, up to the first that has another.
-fn count_steps(strands: &mut Strands<Global>, steps: &[Step]) -> usize {
-    let mut count = 0usize;
-    for step in steps {
-        if !goes(strands, *step) {
-            break;
-        }
-        count = count.wrapping_add(1);
-    }
-    count
-}
-
-/// Takes the steps with new strands.
+/// Takes the steps with new strands, one after another.
 fn check(rt: &impl Abort, alloc: Global, steps: &[Step]) -> Result<(), Fail> {
     let mut strands = Strands::new(alloc)?;
-    equal(
-        rt,
-        &"steps",
-        &count_steps(&mut strands, steps),
-        &steps.len(),
-    );
+    for (place, step) in steps.iter().enumerate() {
+        assert!(rt; goes(&mut strands, *step), "step {place}");
+    }
     Ok(())
 }
 
@@ -199,6 +183,15 @@ const RUNS: &[&[Step]] = &[
         Syncs(0, Ok(Synced::Same)),
         Stands(0, [true, true, false]),
     ],
+    // A million first spawns, and there is no room for another.
+    &[
+        Fills,
+        Reserves(Err(SpFault::Full)),
+        Spawns(2_999_998, Err(SpFault::Full)),
+        Spawns(0, Err(SpFault::NotRunning)),
+        Calls(2_999_998),
+        Returns(2_999_998, Ok(Returned::Resumed)),
+    ],
 ];
 
 #[test]
@@ -207,19 +200,4 @@ fn strands_are_told_apart_numbered_and_joined(rt: HostRuntime) -> Result<(), Fai
         check(&rt, rt.alloc(), steps)?;
     }
     Ok(())
-}
-
-/// A million first spawns, and there is no room for another.
-const FULL: &[Step] = &[
-    Fills,
-    Reserves(Err(SpFault::Full)),
-    Spawns(2_999_998, Err(SpFault::Full)),
-    Spawns(0, Err(SpFault::NotRunning)),
-    Calls(2_999_998),
-    Returns(2_999_998, Ok(Returned::Resumed)),
-];
-
-#[test]
-fn is_full_after_a_million_first_spawns(rt: HostRuntime) -> Result<(), Fail> {
-    check(&rt, rt.alloc(), FULL)
 }

@@ -1,11 +1,10 @@
-//! Items at one place of an order list, and lists without room.
+//! Items at one place of an order list. The tests of growths in `hostile_tests` have lists without memory.
 
 ghost use Rattle.std.specs.Prelude.{◌<◌};
 
 use crate::checks::equal;
-use linked_list_allocator::LocalHeap;
 use order_list::{OrderFault, OrderList};
-use std::alloc::{AllocError, Allocator, Global};
+use std::alloc::{AllocError, Global};
 use std::process::Abort;
 use std::test::Fail;
 
@@ -124,22 +123,12 @@ fn goes(list: &mut OrderList<Global>, step: Step) -> bool {
     }
 }
 
-/// How many of the steps have their outcomes, one after another, up to the first that has another.
-fn count_steps(list: &mut OrderList<Global>, steps: &[Step]) -> usize {
-    let mut count = 0usize;
-    for step in steps {
-        if !goes(list, *step) {
-            break;
-        }
-        count = count.wrapping_add(1);
-    }
-    count
-}
-
-/// Takes the steps with a new list.
+/// Takes the steps with a new list, one after another.
 fn check(rt: &impl Abort, alloc: Global, steps: &[Step]) -> Result<(), AllocError> {
     let mut list = OrderList::new(alloc)?;
-    equal(rt, &"steps", &count_steps(&mut list, steps), &steps.len());
+    for (place, step) in steps.iter().enumerate() {
+        assert!(rt; goes(&mut list, *step), "step {place}");
+    }
     Ok(())
 }
 
@@ -207,56 +196,6 @@ fn places_items_behind_others(rt: HostRuntime) -> Result<(), Fail> {
     for steps in RUNS {
         check(&rt, rt.alloc(), steps)?;
     }
-    Ok(())
-}
-
-/// Whether there is room for twenty items more. A refusal changes nothing.
-fn grows<A: Allocator>(rt: &impl Abort, list: &mut OrderList<A>) -> bool {
-    let outcome = list.reserve(20);
-    let is_grown = outcome.is_ok();
-    let wanted = if is_grown {
-        (Ok(()), 1, 20)
-    } else {
-        (Err(OrderFault::Memory), 1, 0)
-    };
-    let found = (outcome, list.len(), list.reserved().min(20));
-    equal(rt, &"room", &found, &wanted);
-    equal(rt, &"none", &list.reserve(0), &Ok(()));
-    is_grown
-}
-
-/// Whether a list in a new heap grows, or none where there is no list.
-fn grows_on(rt: &impl Abort, heap: &LocalHeap) -> Option<bool> {
-    match OrderList::new(heap) {
-        Ok(mut list) => Some(grows(rt, &mut list)),
-        Err(_) => {
-            equal(rt, &"bytes", &heap.used(), &0);
-            None
-        }
-    }
-}
-
-/// The same of a heap of so many blocks.
-fn grows_in(rt: &impl Abort, alloc: Global, blocks: usize) -> Result<Option<bool>, AllocError>
-    requires { blocks < 60 }
-{
-    let heap = LocalHeap::new(alloc, 16 * blocks)?;
-    Ok(grows_on(rt, &heap))
-}
-
-// The larger the heap, the later a growth is refused.
-#[test]
-fn refused_growth_changes_nothing(rt: HostRuntime) -> Result<(), Fail> {
-    let mut lists = 0u32;
-    let mut grown = 0u32;
-    for blocks in 1..60usize {
-        if let Some(is_grown) = grows_in(&rt, rt.alloc(), blocks)? {
-            lists = lists.saturating_add(1);
-            grown = grown.saturating_add(u32::from(is_grown));
-        }
-    }
-    let found = (0 < grown, grown < lists, lists < 59);
-    equal(&rt, &(grown, lists), &found, &(true, true, true));
     Ok(())
 }
 

@@ -17,23 +17,8 @@ fn gather(monoid: Monoid, numbers: [u64; 3]) -> Option<u64> {
     value(combine(monoid, view, of_update(monoid, second)))
 }
 
-/// A get gives the number after the put and two updates before it.
-fn check_gathered(rt: &impl Abort, cases: &[(Monoid, [u64; 3], u64)]) {
-    for (monoid, numbers, wanted) in cases {
-        equal(rt, monoid, &gather(*monoid, *numbers), &Some(*wanted));
-    }
-}
-
 /// Two views of a monoid, and their product.
 type Product = (Monoid, View, View, View);
-
-/// The views fit their monoid, and have the product beside them.
-fn check_products(rt: &impl Abort, cases: &[Product]) {
-    for (monoid, left, right, wanted) in cases {
-        assert!(rt; fits(*monoid, *left) && fits(*monoid, *right));
-        equal(rt, monoid, &combine(*monoid, *left, *right), wanted);
-    }
-}
 
 /// Whether the identity changes a view on neither side.
 fn is_neutral(monoid: Monoid, number: u64) -> bool {
@@ -43,27 +28,7 @@ fn is_neutral(monoid: Monoid, number: u64) -> bool {
     left == view && right == view
 }
 
-/// Each identity changes no view, and has the value beside it.
-fn check_identities(rt: &impl Abort, cases: &[(Monoid, Option<u64>)]) {
-    for (monoid, wanted) in cases {
-        let monoid = *monoid;
-        let neutral = [
-            is_neutral(monoid, 0),
-            is_neutral(monoid, 1),
-            is_neutral(monoid, u64::MAX),
-        ];
-        equal(rt, &monoid, &neutral, &[true, true, true]);
-        equal(rt, &monoid, &value(identity(monoid)), wanted);
-    }
-}
-
-/// Whether each view fits the monoid beside it.
-fn check_fits(rt: &impl Abort, cases: &[(Monoid, View, bool)]) {
-    for (monoid, view, wanted) in cases {
-        equal(rt, &(*monoid, *view), &fits(*monoid, *view), wanted);
-    }
-}
-
+/// What a get gives after a put and two updates.
 const GATHERED: &[(Monoid, [u64; 3], u64)] = &[
     (Monoid::Sum, [18_446_744_073_709_551_615, 1, 1], 1),
     (Monoid::Min, [9, 4, 6], 4),
@@ -107,13 +72,33 @@ const FITS: &[(Monoid, View, bool)] = &[
 
 #[test]
 fn views_combine_in_serial_order(rt: HostRuntime) {
-    check_gathered(&rt, GATHERED);
-    check_products(&rt, PRODUCTS);
-    check_identities(&rt, IDENTITIES);
-    check_fits(&rt, FITS);
+    for (monoid, numbers, wanted) in GATHERED {
+        equal(&rt, monoid, &gather(*monoid, *numbers), &Some(*wanted));
+    }
+    for (monoid, left, right, wanted) in PRODUCTS {
+        assert!(rt; fits(*monoid, *left) && fits(*monoid, *right));
+        equal(&rt, monoid, &combine(*monoid, *left, *right), wanted);
+    }
     reducer_views::laws::monoid_law();
     reducer_views::laws::quiet_law();
     reducer_views::laws::get_law();
+}
+
+/// Each identity changes no view, and has the value beside it; each view fits the monoid beside it or not.
+#[test]
+fn identities_and_forms(rt: HostRuntime) {
+    for (monoid, wanted) in IDENTITIES {
+        let found = (
+            is_neutral(*monoid, 0),
+            is_neutral(*monoid, 1),
+            is_neutral(*monoid, u64::MAX),
+            value(identity(*monoid)),
+        );
+        equal(&rt, monoid, &found, &(true, true, true, *wanted));
+    }
+    for (monoid, view, wanted) in FITS {
+        equal(&rt, &(*monoid, *view), &fits(*monoid, *view), wanted);
+    }
 }
 
 /// What is done with the views of a strand or a join, or seen in them. Reducers come first.
@@ -204,19 +189,7 @@ fn goes(run: &mut Run, step: Step) -> bool {
         && acts(run, strand, act)
 }
 
-/// How many of the steps have their outcomes, one after another, up to the first that has another.
-fn count_steps(run: &mut Run, steps: &[Step]) -> usize {
-    let mut count = 0usize;
-    for step in steps {
-        if !goes(run, *step) {
-            break;
-        }
-        count = count.wrapping_add(1);
-    }
-    count
-}
-
-/// Takes the steps with new views of these reducers.
+/// Takes the steps with new views of these reducers, one after another.
 fn check(
     rt: &impl Abort,
     alloc: Global,
@@ -228,8 +201,10 @@ fn check(
         views,
         count: monoids.len(),
     };
-    equal(rt, &"room", &run.views.has_room(), &false);
-    equal(rt, &"steps", &count_steps(&mut run, steps), &steps.len());
+    assert!(rt; !run.views.has_room());
+    for (place, step) in steps.iter().enumerate() {
+        assert!(rt; goes(&mut run, *step), "step {place}");
+    }
     Ok(())
 }
 

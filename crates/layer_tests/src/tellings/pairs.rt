@@ -120,7 +120,7 @@ fn is_told(alloc: Global, digest: &Digest, told: &Told<'_>) -> bool
     requires { (entries : List Entry) × IsDigest entries digest.now }
 {
     let Some(race) = digest.races().last() else {
-        return false;
+        return matches!(told, Told::Nothing);
     };
     match told {
         Told::Nothing => true,
@@ -132,19 +132,40 @@ fn is_told(alloc: Global, digest: &Digest, told: &Told<'_>) -> bool
     }
 }
 
-/// What a gate is asked for, the pairs of its history, and what is told of the last of these.
-type Case<'a> = (&'a [Deed], &'a [Pair], Told<'a>);
+/// Whether a digest has lines with these numbers, and no others. Before the first and behind the last there is none.
+fn has_lines(digest: &Digest, lines: &[u32]) -> bool {
+    for (place, line) in lines.iter().enumerate() {
+        if line_in(digest.lines.as_slice(), place.wrapping_add(1)) != *line {
+            return false;
+        }
+    }
+    digest.lines.as_slice() == lines
+        && line_in(digest.lines.as_slice(), 0) == 0
+        && line_in(digest.lines.as_slice(), lines.len().wrapping_add(1)) == 0
+}
 
-/// Whether a gate that is asked for these acts has these pairs, and this is told of the last one.
-fn is_found(alloc: Global, deeds: &[Deed], pairs: &[Pair], told: &Told<'_>) -> bool {
-    let Some(gate) = ask_gate(alloc, 2, &[Monoid::Sum], deeds) else {
+/// What a gate is asked for, and what is found in its history.
+struct Case {
+    deeds: &'static [Deed],
+    lines: &'static [u32],
+    refusals: usize,
+    pairs: &'static [Pair],
+    /// What is told of the last pair.
+    told: Told<'static>,
+}
+
+/// Whether this is found in the history of a gate that is asked for these acts.
+fn is_found(alloc: Global, case: &Case) -> bool {
+    let Some(gate) = ask_gate(alloc, 2, &[Monoid::Sum], case.deeds) else {
         return false;
     };
     match digest_of(alloc, &gate) {
         Some(digest) => {
-            digest.pair_count() == pairs.len()
-                && has_pairs(digest.races(), pairs)
-                && is_told(alloc, &digest, told)
+            has_lines(&digest, case.lines)
+                && digest.refusals == case.refusals
+                && digest.pair_count() == case.pairs.len()
+                && has_pairs(digest.races(), case.pairs)
+                && is_told(alloc, &digest, &case.told)
         }
         None => false,
     }
@@ -155,10 +176,18 @@ const READ_BEHIND_WRITE: Reason = Reason::Race {
     refused: Kind::Read,
 };
 
-const CASES: &[Case<'static>] = &[
+const CASES: &[Case] = &[
+    // Nothing is refused.
+    Case {
+        deeds: &[(0, 3, Spawn), (2, 8, Write(0, 1))],
+        lines: &[3, 8],
+        refusals: 0,
+        pairs: &[],
+        told: Told::Nothing,
+    },
     // Three pairs of lines, one of them twice: they come in the order of their first refusals, and a read is told apart from a write.
-    (
-        &[
+    Case {
+        deeds: &[
             (0, 1, Spawn),
             (1, 5, Write(0, 1)),
             (1, 6, Write(1, 1)),
@@ -167,16 +196,18 @@ const CASES: &[Case<'static>] = &[
             (2, 7, Write(0, 3)),
             (2, 8, Read(0)),
         ],
-        &[
+        lines: &[1, 5, 6, 7, 7, 7, 8],
+        refusals: 4,
+        pairs: &[
             pair!(WRITES, (7, 5), Some(1), (4, 2), 2),
             pair!(WRITES, (7, 6), Some(1), (5, 3), 1),
             pair!(READ_BEHIND_WRITE, (8, 5), Some(1), (7, 2), 1),
         ],
-        Told::Nothing,
-    ),
+        told: Told::Nothing,
+    },
     // One pair on two cells, of which the second raced first and twice.
-    (
-        &[
+    Case {
+        deeds: &[
             (0, 1, Spawn),
             (1, 5, Write(0, 1)),
             (1, 5, Write(1, 1)),
@@ -184,64 +215,38 @@ const CASES: &[Case<'static>] = &[
             (2, 7, Write(0, 2)),
             (2, 7, Write(1, 3)),
         ],
-        &[pair!(WRITES, (7, 5), Some(1), (4, 3), 3)],
-        Told::Places(&[1, 0]),
-    ),
+        lines: &[1, 5, 5, 7, 7, 7],
+        refusals: 3,
+        pairs: &[pair!(WRITES, (7, 5), Some(1), (4, 3), 3)],
+        told: Told::Places(&[1, 0]),
+    },
     // A get before any put, and a get behind a spawn that is outstanding. All is done by the root function, which nothing encloses.
-    (
-        &[
+    Case {
+        deeds: &[
             (0, 1, Get(0)),
             (0, 2, Put(0, 5)),
             (0, 3, Spawn),
             (2, 4, Get(0)),
         ],
-        &[
+        lines: &[1, 2, 3, 4],
+        refusals: 2,
+        pairs: &[
             pair!(Reason::Unset, (1, 0), None, (1, 0), 1),
             pair!(Reason::ViewRead, (4, 2), None, (4, 2), 1),
         ],
-        Told::Met(Known {
+        told: Told::Met(Known {
             chain: &[],
             witness_chain: &[],
             parted: None,
             onward: None,
             open: Some((3, 0, 1, 2, 0)),
         }),
-    ),
+    },
 ];
 
 #[test]
 fn lines_that_raced(rt: HostRuntime) {
-    for (deeds, pairs, told) in CASES {
-        assert!(rt; is_found(rt.alloc(), deeds, pairs, told));
+    for (place, case) in CASES.iter().enumerate() {
+        assert!(rt; is_found(rt.alloc(), case), "case {place}");
     }
-}
-
-/// The lines of a history, with those before the first and behind the last.
-const LINES: &[(usize, u32)] = &[(0, 0), (1, 3), (2, 8), (3, 0)];
-
-/// Whether a digest has these lines.
-fn has_lines(digest: &Digest) -> bool {
-    for (number, line) in LINES {
-        if line_in(digest.lines.as_slice(), *number) != *line {
-            return false;
-        }
-    }
-    digest.lines.len() == 2 && digest.refusals == 0 && digest.pair_count() == 0
-}
-
-/// Whether the digest of what a gate was asked for has these lines.
-fn are_known(alloc: Global, deeds: &[Deed]) -> bool {
-    let Some(gate) = ask_gate(alloc, 2, &[Monoid::Sum], deeds) else {
-        return false;
-    };
-    match digest_of(alloc, &gate) {
-        Some(digest) => has_lines(&digest),
-        None => false,
-    }
-}
-
-#[test]
-fn numbers(rt: HostRuntime) {
-    const DEEDS: &[Deed] = &[(0, 3, Spawn), (2, 8, Write(0, 1))];
-    assert!(rt; are_known(rt.alloc(), DEEDS));
 }

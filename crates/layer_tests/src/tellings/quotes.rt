@@ -1,4 +1,4 @@
-//! Whole messages: some that `explain` tells of no text, and a painted one. tests/messages.t and tests/mistakes-in-words.t have others.
+//! Whole messages that `explain` tells of no text. tests/messages.t and tests/mistakes-in-words.t have others.
 
 use super::texts::is_text;
 use source_quotes::{Meant, fault_message};
@@ -9,24 +9,11 @@ use text_words::Cause;
 /// A text with a fault in it, its line and cause, and what is told of it.
 type Case<'a> = (&'a str, u32, Cause, &'a str);
 
-/// What is told of the fault, painted as on a terminal or not, is this.
-fn is_told(
-    rt: &impl Abort,
-    alloc: Global,
-    is_painted: bool,
-    case: &Case<'_>,
-) -> Result<(), AllocError> {
+/// What is told of the fault on paper is this.
+fn is_told(rt: &impl Abort, alloc: Global, case: &Case<'_>) -> Result<(), AllocError> {
     let (text, line, why, wanted) = case;
     let bytes = text.as_bytes();
-    let told = fault_message(
-        alloc,
-        is_painted,
-        "p.cilk",
-        bytes,
-        *line,
-        *why,
-        Meant::Program,
-    )?;
+    let told = fault_message(alloc, false, "p.cilk", bytes, *line, *why, Meant::Program)?;
     is_text(rt, told.as_slice(), wanted);
     Ok(())
 }
@@ -64,19 +51,6 @@ const FAULTS: &[Case<'static>] = &[
 #[test]
 fn faults_are_told(rt: HostRuntime) {
     for case in FAULTS {
-        assert!(rt; is_told(&rt, rt.alloc(), false, case).is_ok());
+        assert!(rt; is_told(&rt, rt.alloc(), case).is_ok());
     }
-}
-
-/// With ten lines the column of numbers is wider, and on a terminal words are painted.
-#[test]
-fn a_painted_message(rt: HostRuntime) {
-    const PAINTED: Case<'static> = (
-        "cilk 1\n\n\n\n\n\n\n\nfunc f z\nend\n",
-        11,
-        Cause::NoMain,
-        "\u{1b}[1;31merror\u{1b}[0m: there is no function `main`\n  \u{1b}[1;34m-->\u{1b}[0m p.cilk:11\n  \u{1b}[1;34m |\u{1b}[0m\n\
-         \u{1b}[1;34m11 |\u{1b}[0m \n  \u{1b}[1;34m |\u{1b}[0m \u{1b}[1;31m\u{1b}[0m\n  \u{1b}[1;34m =\u{1b}[0m help: add the function with which the program begins: `func main z`\n",
-    );
-    assert!(rt; is_told(&rt, rt.alloc(), true, &PAINTED).is_ok());
 }

@@ -2,17 +2,26 @@
 
 use crate::checks::equal;
 use access_table::{Kind, N, Rule, conflicting, is_memory, kind_of, laws, rule, rule_word, word};
-use std::process::Abort;
 
-/// Two kinds, and their rule.
-type Pair = (Kind, Kind, Rule);
+/// Two kinds, their rule, and its word.
+type Pair = (Kind, Kind, Rule, Option<&'static str>);
 
 const RULES: &[Pair] = &[
-    (Kind::Read, Kind::Read, Rule::Free),
-    (Kind::Bump, Kind::Bump, Rule::Free),
-    (Kind::Write, Kind::Get, Rule::Free),
-    (Kind::Read, Kind::Write, Rule::Race),
-    (Kind::Get, Kind::Put, Rule::View),
+    (Kind::Write, Kind::Write, Rule::Race, Some("write-write")),
+    (Kind::Read, Kind::Write, Rule::Race, Some("read-write")),
+    (Kind::Write, Kind::Read, Rule::Race, Some("write-read")),
+    (Kind::Write, Kind::Bump, Rule::Race, Some("write-bump")),
+    (Kind::Read, Kind::Bump, Rule::Race, Some("read-bump")),
+    (Kind::Bump, Kind::Write, Rule::Race, Some("bump-write")),
+    (Kind::Bump, Kind::Read, Rule::Race, Some("bump-read")),
+    (Kind::Put, Kind::Put, Rule::View, Some("view-read")),
+    (Kind::Put, Kind::Get, Rule::View, Some("view-read")),
+    (Kind::Get, Kind::Put, Rule::View, Some("view-read")),
+    (Kind::Get, Kind::Get, Rule::View, Some("view-read")),
+    (Kind::Read, Kind::Read, Rule::Free, None),
+    (Kind::Bump, Kind::Bump, Rule::Free, None),
+    (Kind::Update, Kind::Get, Rule::Free, None),
+    (Kind::Write, Kind::Get, Rule::Free, None),
 ];
 
 /// Each kind, its word, whether it accesses memory, and the kinds that it conflicts with, in this order.
@@ -60,72 +69,34 @@ const KINDS: &[Row] = &[
 /// None of these is the word of a kind.
 const NO_KINDS: &[&str] = &["", "writ", "writer", "Write", "view-read"];
 
-/// Two kinds, and the word of their rule.
-type PairWord = (Kind, Kind, Option<&'static str>);
-
-const RULE_WORDS: &[PairWord] = &[
-    (Kind::Write, Kind::Write, Some("write-write")),
-    (Kind::Read, Kind::Write, Some("read-write")),
-    (Kind::Write, Kind::Read, Some("write-read")),
-    (Kind::Write, Kind::Bump, Some("write-bump")),
-    (Kind::Read, Kind::Bump, Some("read-bump")),
-    (Kind::Bump, Kind::Write, Some("bump-write")),
-    (Kind::Bump, Kind::Read, Some("bump-read")),
-    (Kind::Put, Kind::Put, Some("view-read")),
-    (Kind::Put, Kind::Get, Some("view-read")),
-    (Kind::Get, Kind::Put, Some("view-read")),
-    (Kind::Get, Kind::Get, Some("view-read")),
-    (Kind::Read, Kind::Read, None),
-    (Kind::Bump, Kind::Bump, None),
-    (Kind::Update, Kind::Get, None),
-];
-
-/// Each pair of kinds has the rule beside it.
-fn check_rules(rt: &impl Abort, cases: &[Pair]) {
-    for (old, new, wanted) in cases {
-        equal(rt, &(*old, *new), &rule(*old, *new), wanted);
+/// Each pair of kinds has the rule and the word beside it.
+#[test]
+fn rules(rt: HostRuntime) {
+    for (old, new, wanted, text) in RULES {
+        let found = (rule(*old, *new), rule_word(*old, *new));
+        equal(&rt, &(*old, *new), &found, &(*wanted, *text));
     }
+    laws::table_law();
 }
 
 /// Each kind has its word and the word is its own, it conflicts with these, and updates conflict with none.
-fn check_kinds(rt: &impl Abort, cases: &[Row]) {
-    for (kind, text, memory, conflicts) in cases {
+#[test]
+fn kinds(rt: HostRuntime) {
+    equal(&rt, &"kinds", &N, &6);
+    for (kind, text, memory, conflicts) in KINDS {
         let kind = *kind;
-        let found = (
+        let told = (
             word(kind),
             kind_of(text),
             is_memory(kind),
             conflicting(kind),
         );
-        equal(rt, text, &found, &(*text, Some(kind), *memory, *conflicts));
         let of_update = (rule(Kind::Update, kind), rule(kind, Kind::Update));
-        equal(rt, text, &of_update, &(Rule::Free, Rule::Free));
+        let wanted = (*text, Some(kind), *memory, *conflicts);
+        let free = (Rule::Free, Rule::Free);
+        equal(&rt, text, &(told, of_update), &(wanted, free));
     }
-}
-
-fn check_no_kinds(rt: &impl Abort, texts: &[&str]) {
-    for text in texts {
-        equal(rt, text, &kind_of(text), &None);
+    for text in NO_KINDS {
+        equal(&rt, text, &kind_of(text), &None);
     }
-}
-
-/// Each pair of kinds has the word beside it.
-fn check_rule_words(rt: &impl Abort, cases: &[PairWord]) {
-    for (old, new, wanted) in cases {
-        equal(rt, &(*old, *new), &rule_word(*old, *new), wanted);
-    }
-}
-
-#[test]
-fn rules(rt: HostRuntime) {
-    check_rules(&rt, RULES);
-    check_rule_words(&rt, RULE_WORDS);
-    laws::table_law();
-}
-
-#[test]
-fn kinds(rt: HostRuntime) {
-    equal(&rt, &"kinds", &N, &6);
-    check_kinds(&rt, KINDS);
-    check_no_kinds(&rt, NO_KINDS);
 }

@@ -1,12 +1,16 @@
 //! Lines of programs: each kind of line, each cause, and the words of statements.
 
+ghost use Rattle.std.specs.Prelude.{◌≤◌, length};
+ghost use Rattle.program_lines.specs.Scopes.{max_registers};
+
 use super::registers::at;
-use crate::checks::equal;
 use program_lines::{
     Expression, FunctionNames, Item, NameScope, Operand, Statement, meaning_or_fault, one_meaning,
     plain_meaning, put_statement, read_line, room_for_registers,
 };
 use std::alloc::{AllocError, Global};
+use std::process::Abort;
+use std::test::Fail;
 use text_words::{Cause, Name, Names, Version, Words, as_text};
 
 /// A line, and what it says, as it is shown, or the cause why it says nothing.
@@ -28,16 +32,11 @@ fn says(alloc: Global, scope: &NameScope<'_, '_, Global>, line: &[u8], wanted: &
     }
 }
 
-/// How many lines say what is shown beside them in this scope, up to the first that does not.
-fn count_said(alloc: Global, scope: &NameScope<'_, '_, Global>, cases: &[Line]) -> usize {
-    let mut count = 0usize;
+/// The lines say in this scope what is shown beside them.
+fn check(rt: &impl Abort, alloc: Global, scope: &NameScope<'_, '_, Global>, cases: &[Line]) {
     for (line, wanted) in cases {
-        if !says(alloc, scope, line, wanted) {
-            break;
-        }
-        count = count.wrapping_add(1);
+        assert!(rt; says(alloc, scope, line, wanted), "{wanted}");
     }
-    count
 }
 
 /// The functions `main` and `fib`.
@@ -48,34 +47,22 @@ fn functions(alloc: Global) -> Result<FunctionNames<'static, Global>, AllocError
     Ok(functions)
 }
 
-/// The same in a text of that version that declares nothing, where these functions are named, of which the first has begun, and the
-/// registers `n` and `t`.
-fn count_said_beside(
+/// So do the lines of a text of that version that declares nothing, where these functions are named, so many have begun, and there are these
+/// registers.
+fn check_beside(
+    rt: &impl Abort,
     alloc: Global,
     version: Version,
     functions: &FunctionNames<'_, Global>,
+    begun: u32,
+    registers: &[Name],
     cases: &[Line],
-) -> usize {
+)
+    requires { length registers.now ≤ max_registers }
+{
     let names = Names::new(alloc, version);
-    let registers = [Name::new("n"), Name::new("t")];
-    let scope = NameScope::new(&names, functions, 1, &registers);
-    count_said(alloc, &scope, cases)
-}
-
-/// The same where the functions are `main` and `fib`.
-fn count_said_inside(alloc: Global, version: Version, cases: &[Line]) -> usize {
-    match functions(alloc) {
-        Ok(functions) => count_said_beside(alloc, version, &functions, cases),
-        Err(_) => 0,
-    }
-}
-
-/// The same where no function is named and no register.
-fn count_said_outside(alloc: Global, cases: &[Line]) -> usize {
-    let functions = FunctionNames::new(alloc);
-    let names = Names::new(alloc, Version::One);
-    let scope = NameScope::new(&names, &functions, 0, &[]);
-    count_said(alloc, &scope, cases)
+    let scope = NameScope::new(&names, functions, begun, registers);
+    check(rt, alloc, &scope, cases);
 }
 
 /// Statements of the first version.
@@ -142,14 +129,22 @@ const KINDS: &[Line] = &[
     (b"end", "Ok(Ends)"),
 ];
 
+/// What the lines say where `main` has begun, and the registers are `n` and `t`, or where nothing is named.
 #[test]
-fn lines(rt: HostRuntime) {
-    let first = count_said_inside(rt.alloc(), Version::One, FIRST);
-    let second = count_said_inside(rt.alloc(), Version::Two, SECOND);
-    let causes = count_said_inside(rt.alloc(), Version::One, CAUSES);
-    let kinds = count_said_outside(rt.alloc(), KINDS);
-    let wanted = [FIRST.len(), SECOND.len(), CAUSES.len(), KINDS.len()];
-    equal(&rt, &"lines", &[first, second, causes, kinds], &wanted);
+fn lines(rt: HostRuntime) -> Result<(), Fail> {
+    let functions = functions(rt.alloc())?;
+    let registers = [Name::new("n"), Name::new("t")];
+    let (one, two) = (Version::One, Version::Two);
+    check_beside(&rt, rt.alloc(), one, &functions, 1, &registers, FIRST);
+    check_beside(&rt, rt.alloc(), two, &functions, 1, &registers, SECOND);
+    check_beside(&rt, rt.alloc(), one, &functions, 1, &registers, CAUSES);
+    let none = FunctionNames::new(rt.alloc());
+    check_beside(&rt, rt.alloc(), one, &none, 0, &[], KINDS);
+    one_meaning();
+    meaning_or_fault();
+    room_for_registers();
+    plain_meaning();
+    Ok(())
 }
 
 /// Whether a statement of a function with the registers `n` and `t` is printed so. If it names a function, it is this one.
@@ -176,12 +171,4 @@ fn prints_statements(rt: HostRuntime) {
         argument: Operand::Held(at(0)),
     };
     assert!(rt; prints(rt.alloc(), "fib", &call, "call fib ok"));
-}
-
-#[test]
-fn laws_hold() {
-    one_meaning();
-    meaning_or_fault();
-    room_for_registers();
-    plain_meaning();
 }

@@ -1,24 +1,23 @@
-//! Texts that have much of one thing.
+//! The limits of traces and programs: texts that have much of one thing.
 
 use super::checks::{Form, Given, read};
 use crate::checks::equal;
 use std::alloc::Global;
-use std::process::Abort;
 use text_words::Cause;
 
 /// A text with much of one thing.
 #[derive(Clone, Copy)]
-pub struct Much {
+struct Much {
     /// What it is read as.
-    pub form: Form,
+    form: Form,
     /// Its first lines.
-    pub head: &'static str,
+    head: &'static str,
     /// What is repeated: a line, in which its number stands between two parts if there are two.
-    pub line: (&'static str, Option<&'static str>),
+    line: (&'static str, Option<&'static str>),
     /// What is repeated as often behind these lines.
-    pub closing: &'static str,
+    closing: &'static str,
     /// Its last lines.
-    pub tail: &'static str,
+    tail: &'static str,
 }
 
 /// Appends a line as often as that. Whether there is memory for it.
@@ -64,14 +63,112 @@ fn found(alloc: Global, much: &Much, count: u32) -> Option<Given<()>> {
 }
 
 /// What there is much of, the most of it, and the line on which one more stands.
-pub type Limit = (Much, u32, u32);
+type Limit = (Much, u32, u32);
+
+const LIMITS: &[Limit] = &[
+    // `if`s in one another.
+    (
+        Much {
+            form: Form::Program,
+            head: "cilk 1\nfunc main z\n",
+            line: ("if z\n", None),
+            closing: "end\n",
+            tail: "end\n",
+        },
+        64,
+        67,
+    ),
+    // Statements and the `end` of their function.
+    (
+        Much {
+            form: Form::Program,
+            head: "cilk 1\n# c\nfunc main z\n",
+            line: ("\nsync\n", None),
+            closing: "",
+            tail: "end\n",
+        },
+        99_999,
+        200_004,
+    ),
+    // Functions beside `main`.
+    (
+        Much {
+            form: Form::Program,
+            head: "cilk 1\nfunc main z\nend\n",
+            line: ("func f", Some(" z\nend\n")),
+            closing: "",
+            tail: "",
+        },
+        999,
+        2_002,
+    ),
+    // Registers beside a parameter.
+    (
+        Much {
+            form: Form::Program,
+            head: "cilk 1\nfunc main z\n",
+            line: ("let r", Some(" = z\n")),
+            closing: "",
+            tail: "end\n",
+        },
+        15,
+        18,
+    ),
+    (
+        Much {
+            form: Form::Program,
+            head: "cilk 1\nfunc main z\n",
+            line: ("let r", Some(" = 0\n")),
+            closing: "",
+            tail: "end\n",
+        },
+        15,
+        18,
+    ),
+    // Reducers.
+    (
+        Much {
+            form: Form::Program,
+            head: "cilk 1\n",
+            line: ("reducer h", Some(" sum\n")),
+            closing: "",
+            tail: "func main z\nend\n",
+        },
+        256,
+        258,
+    ),
+    (
+        Much {
+            form: Form::Trace,
+            head: "cilk 1\n",
+            line: ("reducer h", Some(" max\n")),
+            closing: "",
+            tail: "",
+        },
+        256,
+        258,
+    ),
+    // Lines, behind three.
+    (
+        Much {
+            form: Form::Program,
+            head: "cilk 1\nfunc main z\nend\n",
+            line: ("\n", None),
+            closing: "",
+            tail: "",
+        },
+        3_999_997,
+        4_000_001,
+    ),
+];
 
 /// So much means a trace or a program, and one more is too much, by what stands on that line.
-pub fn check_limits(rt: &impl Abort, alloc: Global, limits: &[Limit]) {
-    for (much, most, line) in limits {
-        let whole = found(alloc, much, *most);
-        let more = found(alloc, much, most.wrapping_add(1));
+#[test]
+fn limits(rt: HostRuntime) {
+    for (much, most, line) in LIMITS {
+        let whole = found(rt.alloc(), much, *most);
+        let more = found(rt.alloc(), much, most.wrapping_add(1));
         let wanted = (Some(Ok(())), Some(Err((*line, Cause::TooMany))));
-        equal(rt, &(much.head, *most), &(whole, more), &wanted);
+        equal(&rt, &(much.head, *most), &(whole, more), &wanted);
     }
 }

@@ -52,12 +52,6 @@ const PLACES: &[(&str, Option<Parts>)] = &[
     ("", None),
 ];
 
-fn check_places(rt: &impl Abort, cases: &[(&str, Option<Parts>)]) {
-    for (text, wanted) in cases {
-        equal(rt, text, &parts(split_place(text)), wanted);
-    }
-}
-
 const FIRST: &[u8] = b"cilk 1\n# a trace\n#run sort 100\n#at 7 a.c:1, main | x = 1;\n\
     #at 7 b.c:2\nmem x # x\nmem c 4\n#of c[3] the fourth\n#of x a counter, \"x\"\r\n\
     write 0 x 1 @7 #at 8 c.c:3\n #at 9 d.c:4\n#atx 10 e.c:5\n#at  11 f.c:6\n#at 12\tg.c:7\n#at 0 h.c:8\n\
@@ -90,12 +84,6 @@ const MARKS: &[(u32, Option<Parts>)] = &[
     (17, None),
 ];
 
-fn check_marks(rt: &impl Abort, notes: &Notes<Global>, cases: &[(u32, Option<Parts>)]) {
-    for (mark, wanted) in cases {
-        equal(rt, mark, &parts(notes.place_of(*mark)), wanted);
-    }
-}
-
 const CELLS: &[(&str, Option<&str>)] = &[
     ("c[3]", Some("the fourth")),
     ("c[0]", Some("an array")),
@@ -106,29 +94,32 @@ const CELLS: &[(&str, Option<&str>)] = &[
     ("", None),
 ];
 
-fn check_cells(rt: &impl Abort, notes: &Notes<Global>, cases: &[(&str, Option<&str>)]) {
-    for (cell, wanted) in cases {
+const RUNS: &[&str] = &["sort 100", "the second"];
+
+/// These are the places of marks, the texts of cells, and the runs.
+fn check(rt: &impl Abort, notes: &Notes<Global>) {
+    for (mark, wanted) in MARKS {
+        equal(rt, mark, &parts(notes.place_of(*mark)), wanted);
+    }
+    for (cell, wanted) in CELLS {
         equal(rt, cell, &notes.text_of(cell), wanted);
     }
-}
-
-fn check_runs(rt: &impl Abort, notes: &Notes<Global>, wanted: &[&str]) {
-    equal(rt, &"runs", &notes.runs().len(), &wanted.len());
+    equal(rt, &"runs", &notes.runs().len(), &RUNS.len());
     for (at, found) in notes.runs().iter().enumerate() {
-        equal(rt, &at, &Some(found.as_str()), &wanted.get(at).copied());
+        equal(rt, &at, &Some(found.as_str()), &RUNS.get(at).copied());
     }
 }
 
 #[test]
 fn places_are_taken_apart(rt: HostRuntime) {
-    check_places(&rt, PLACES);
+    for (text, wanted) in PLACES {
+        equal(&rt, text, &parts(split_place(text)), wanted);
+    }
 }
 
 #[test]
 fn the_first_note_counts(rt: HostRuntime) -> Result<(), AllocError> {
     let notes = read(rt.alloc())?;
-    check_marks(&rt, &notes, MARKS);
-    check_cells(&rt, &notes, CELLS);
-    check_runs(&rt, &notes, &["sort 100", "the second"]);
+    check(&rt, &notes);
     Ok(())
 }

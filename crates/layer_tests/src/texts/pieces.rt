@@ -3,7 +3,6 @@
 use super::checks::{Given, reading_of};
 use crate::checks::equal;
 use std::alloc::Global;
-use std::process::Abort;
 use text_words::{Cause, TextFault};
 use trace_text::BegunTrace;
 
@@ -28,18 +27,6 @@ const HEADS: &[Head] = &[
     (b"cilk 1\nspawn\nmem", Err((2, Cause::BadWord))),
 ];
 
-/// The whole lines at the head are read, where a request stands among them.
-fn check_heads(rt: &impl Abort, alloc: Global, cases: &[Head]) {
-    for (head, wanted) in cases {
-        equal(
-            rt,
-            head,
-            &reading_of(find_begin(alloc, head)),
-            &Some(*wanted),
-        );
-    }
-}
-
 /// How many requests there are behind a head of two, a piece of which so many bytes are whole lines, and a tail.
 fn requests(alloc: Global, piece: &[u8], tail: &[u8], whole: usize) -> Result<usize, TextFault> {
     let Some((mut begun, _)) = BegunTrace::begin(alloc, b"cilk 1\nmem x\nspawn 0\nsync 0\n")? else {
@@ -63,14 +50,6 @@ const PIECES: &[Piece] = &[
     (b"sync 0\n", 7, b"read 0 y", Err((6, Cause::UnknownName))),
     (b"read 0\nmem y\n", 0, b"", Err((5, Cause::BadWord))),
 ];
-
-/// Lines go on where they ended, and a fault has the number of its line among all.
-fn check_pieces(rt: &impl Abort, alloc: Global, cases: &[Piece]) {
-    for (piece, whole, tail, wanted) in cases {
-        let found = reading_of(requests(alloc, piece, tail, *whole));
-        equal(rt, piece, &found, &Some(*wanted));
-    }
-}
 
 /// The plain lines of the requests at the head of a piece behind a head of two requests, as they are printed, and how many bytes stand
 /// behind them. None where memory was refused.
@@ -103,29 +82,34 @@ const PLAIN: &[PlainPiece] = &[
     (b"read 0 y\n", b""),
 ];
 
-/// Plain lines are printed as they stand, and the first line of another form ends them.
-fn check_plain(rt: &impl Abort, alloc: Global, cases: &[PlainPiece]) {
-    for (piece, wanted) in cases {
-        let Some((lines, rest)) = plain_lines(alloc, piece) else {
-            rt.abort();
-        };
-        equal(rt, piece, &(lines.as_slice() == *wanted), &true);
-        equal(
-            rt,
-            piece,
-            &rest.checked_add(wanted.len()),
-            &Some(piece.len()),
-        );
+/// The whole lines at a head are read, where a request stands among them. Lines go on where they ended, and a fault has the number of its
+/// line among all.
+#[test]
+fn heads_and_pieces(rt: HostRuntime) {
+    for (head, wanted) in HEADS {
+        let found = reading_of(find_begin(rt.alloc(), head));
+        equal(&rt, head, &found, &Some(*wanted));
+    }
+    for (piece, whole, tail, wanted) in PIECES {
+        let found = reading_of(requests(rt.alloc(), piece, tail, *whole));
+        equal(&rt, piece, &found, &Some(*wanted));
     }
 }
 
-#[test]
-fn heads_and_pieces(rt: HostRuntime) {
-    check_heads(&rt, rt.alloc(), HEADS);
-    check_pieces(&rt, rt.alloc(), PIECES);
+/// Whether these are the plain lines at the head of the piece.
+fn are_plain(alloc: Global, piece: &[u8], wanted: &[u8]) -> bool {
+    match plain_lines(alloc, piece) {
+        Some((lines, rest)) => {
+            lines.as_slice() == wanted && rest.checked_add(wanted.len()) == Some(piece.len())
+        }
+        None => false,
+    }
 }
 
+/// Plain lines are printed as they stand, and the first line of another form ends them.
 #[test]
 fn plain_pieces(rt: HostRuntime) {
-    check_plain(&rt, rt.alloc(), PLAIN);
+    for (piece, wanted) in PLAIN {
+        equal(&rt, piece, &are_plain(rt.alloc(), piece, wanted), &true);
+    }
 }

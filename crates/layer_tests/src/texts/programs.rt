@@ -1,7 +1,6 @@
-//! Programs as text: each limit, each kind of line.
+//! Programs as text: what they have, and the names of cells.
 
-use super::checks::{Form, has_cells};
-use super::many::{Limit, Much, check_limits};
+use super::checks::has_cells;
 use super::registers::at;
 use program_text::{Expression, Operand, Program, Statement};
 use std::alloc::Global;
@@ -189,117 +188,10 @@ fn names_of_the_whole_text(rt: HostRuntime) {
     assert!(rt; has(rt.alloc(), CALLS, &statements));
 }
 
-/// The most of each.
-const LIMITS: &[Limit] = &[
-    // `if`s in one another.
-    (
-        Much {
-            form: Form::Program,
-            head: "cilk 1\nfunc main z\n",
-            line: ("if z\n", None),
-            closing: "end\n",
-            tail: "end\n",
-        },
-        64,
-        67,
-    ),
-    // Statements and the `end` of their function.
-    (
-        Much {
-            form: Form::Program,
-            head: "cilk 1\n# c\nfunc main z\n",
-            line: ("\nsync\n", None),
-            closing: "",
-            tail: "end\n",
-        },
-        99_999,
-        200_004,
-    ),
-    // Functions beside `main`.
-    (
-        Much {
-            form: Form::Program,
-            head: "cilk 1\nfunc main z\nend\n",
-            line: ("func f", Some(" z\nend\n")),
-            closing: "",
-            tail: "",
-        },
-        999,
-        2_002,
-    ),
-    // Registers beside a parameter.
-    (
-        Much {
-            form: Form::Program,
-            head: "cilk 1\nfunc main z\n",
-            line: ("let r", Some(" = z\n")),
-            closing: "",
-            tail: "end\n",
-        },
-        15,
-        18,
-    ),
-    (
-        Much {
-            form: Form::Program,
-            head: "cilk 1\nfunc main z\n",
-            line: ("let r", Some(" = 0\n")),
-            closing: "",
-            tail: "end\n",
-        },
-        15,
-        18,
-    ),
-    // Reducers.
-    (
-        Much {
-            form: Form::Program,
-            head: "cilk 1\n",
-            line: ("reducer h", Some(" sum\n")),
-            closing: "",
-            tail: "func main z\nend\n",
-        },
-        256,
-        258,
-    ),
-];
-
-#[test]
-fn limits(rt: HostRuntime) {
-    check_limits(&rt, rt.alloc(), LIMITS);
-}
-
-/// The most lines, behind three.
-const LINES: &[Limit] = &[(
-    Much {
-        form: Form::Program,
-        head: "cilk 1\nfunc main z\nend\n",
-        line: ("\n", None),
-        closing: "",
-        tail: "",
-    },
-    3_999_997,
-    4_000_001,
-)];
-
-#[test]
-fn many_lines(rt: HostRuntime) {
-    check_limits(&rt, rt.alloc(), LINES);
-}
-
-/// Whether the program has the cells of NAMED.
-fn has_names(alloc: Global, program: &Program<Global>) -> bool {
-    match program.shape(alloc) {
-        Ok(shape) => has_cells(alloc, &shape, program.mems.as_slice(), &[]),
-        Err(_) => false,
-    }
-}
-
-const NAMED: &[u8] = b"cilk 1\nmem x\nmem a 2\nfunc main z\nend\n";
-
 #[test]
 fn names_of_cells(rt: HostRuntime) -> Result<(), Fail> {
-    let program = Program::parse(rt.alloc(), NAMED)?;
-    assert!(rt; has_names(rt.alloc(), &program));
+    let program = Program::parse(rt.alloc(), b"cilk 1\nmem x\nmem a 2\nfunc main z\nend\n")?;
+    let shape = program.shape(rt.alloc())?;
+    assert!(rt; has_cells(rt.alloc(), &shape, program.mems.as_slice(), &[]));
     Ok(())
 }

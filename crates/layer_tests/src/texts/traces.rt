@@ -1,8 +1,7 @@
-//! Traces as text: each limit, each kind of line.
+//! Traces as text: each kind of line, and the names of cells.
 
-use super::checks::{Form, has_cells};
+use super::checks::has_cells;
 use super::kept::are_lines;
-use super::many::{Limit, Much, check_limits};
 use crate::checks::equal;
 use std::alloc::Global;
 use std::test::Fail;
@@ -123,39 +122,12 @@ fn meanings(rt: HostRuntime) {
     }
 }
 
-const LIMITS: &[Limit] = &[(
-    Much {
-        form: Form::Trace,
-        head: "cilk 1\n",
-        line: ("reducer h", Some(" max\n")),
-        closing: "",
-        tail: "",
-    },
-    256,
-    258,
-)];
-
-#[test]
-fn limits(rt: HostRuntime) {
-    check_limits(&rt, rt.alloc(), LIMITS);
-}
-
-/// Whether the trace has the cells of NAMED, and a reducer of digits and one of the least.
-fn has_names(alloc: Global, trace: &Trace<Global>) -> bool {
-    match trace.shape(alloc) {
-        Ok(shape) => {
-            let monoids = [Monoid::Digits, Monoid::Min];
-            has_cells(alloc, &shape, trace.mems.as_slice(), &monoids)
-        }
-        Err(_) => false,
-    }
-}
-
-const NAMED: &[u8] = b"cilk 2\nmem x\nmem a 2\nreducer h digits\nreducer g min\n";
-
 #[test]
 fn shapes_and_names(rt: HostRuntime) -> Result<(), Fail> {
-    let trace = Trace::parse(rt.alloc(), NAMED)?;
-    assert!(rt; has_names(rt.alloc(), &trace));
+    let text = b"cilk 2\nmem x\nmem a 2\nreducer h digits\nreducer g min\n";
+    let trace = Trace::parse(rt.alloc(), text)?;
+    let shape = trace.shape(rt.alloc())?;
+    let monoids = [Monoid::Digits, Monoid::Min];
+    assert!(rt; has_cells(rt.alloc(), &shape, trace.mems.as_slice(), &monoids));
     Ok(())
 }
