@@ -35,9 +35,9 @@ fn has_room(list: &OrderList<&Heap>, room: u32) -> bool {
     list.len() == 1 && list.reserved() == room
 }
 
-/// The list has no room, and gets it where it is asked for now.
+/// The list has no room, which is enough for no item, and gets it where it is asked for now.
 fn gets_room(list: &mut OrderList<&Heap>) -> bool {
-    has_room(list, 0) && list.reserve(20).is_ok() && has_room(list, 20)
+    has_room(list, 0) && list.reserve(0).is_ok() && list.reserve(20).is_ok() && has_room(list, 20)
 }
 
 fn reserve(heap: &Heap, number: u64, list: &mut OrderList<&Heap>) -> Option<bool> {
