@@ -21,8 +21,8 @@ fn check_told<A: Abort>(
     status: u8,
 ) -> Result<(), Fail> {
     let told = format!(in alloc; "{fault}")?;
-    equal(rt, &text, &told.as_str(), &text);
-    equal(rt, &text, &fault.status(), &status);
+    let found = (told.as_str(), fault.status());
+    equal(rt, &text, &found, &(text, status));
     Ok(())
 }
 
@@ -34,11 +34,12 @@ fn check_each(rt: &impl Abort, alloc: Global, faults: &[(CliFault, &str, u8)]) -
     Ok(())
 }
 
-/// Faults of the arguments, of what is read and of what is written.
+/// Faults of the arguments, of want of memory, of what is read and of what is written.
 fn check_streams(rt: &impl Abort, alloc: Global) -> Result<(), Fail> {
     let words = "no such option".to_string(alloc)?;
     let faults = [
         (CliFault::Usage(words), "no such option", 2),
+        (CliFault::from(TextFault::Memory), "memory", 3),
         (CliFault::Read, "read", 2),
         (CliFault::Write, "write", 2),
         (CliFault::Unwritten, "cannot write OUT", 2),
@@ -89,70 +90,21 @@ fn each_fault_has_its_text_and_status(rt: HostRuntime) -> Result<(), Fail> {
     check_runs(&rt, rt.alloc())
 }
 
-/// A prank that a door plays to the workers of `run_text`, and the fault that is told.
-#[derive(Clone, Copy)]
-struct Case {
-    prank: Prank,
-    text: &'static str,
-    status: u8,
-}
+/// A prank that a door plays to the workers of `run_text`, and the text and status of the fault that is told.
+type Case = (Prank, &'static str, u8);
 
 const CASES: &[Case] = &[
-    Case {
-        prank: Prank::Stops(1),
-        text: "stopped",
-        status: 4,
-    },
-    Case {
-        prank: Prank::Stops(100),
-        text: "stopped",
-        status: 4,
-    },
-    Case {
-        prank: Prank::Stops(713),
-        text: "stopped",
-        status: 4,
-    },
-    Case {
-        prank: Prank::Tears(1),
-        text: "torn",
-        status: 4,
-    },
-    Case {
-        prank: Prank::Tears(100),
-        text: "torn",
-        status: 4,
-    },
-    Case {
-        prank: Prank::Tears(713),
-        text: "torn",
-        status: 4,
-    },
-    Case {
-        prank: Prank::Swaps(1),
-        text: "strange",
-        status: 4,
-    },
-    Case {
-        prank: Prank::Swaps(100),
-        text: "strange",
-        status: 4,
-    },
-    Case {
-        prank: Prank::Swaps(713),
-        text: "strange",
-        status: 4,
-    },
-    Case {
-        prank: Prank::Starves(1),
-        text: "memory",
-        status: 3,
-    },
-    Case {
-        prank: Prank::Starves(713),
-        text: "memory",
-        status: 3,
-    },
+    (Prank::Stops(1), "stopped", 4),
+    (Prank::Stops(100), "stopped", 4),
+    (Prank::Stops(713), "stopped", 4),
+    (Prank::Tears(1), "torn", 4),
+    (Prank::Tears(100), "torn", 4),
+    (Prank::Tears(713), "torn", 4),
+    (Prank::Swaps(1), "strange", 4),
+    (Prank::Swaps(100), "strange", 4),
+    (Prank::Swaps(713), "strange", 4),
+    (Prank::Starves(1), "memory", 3),
+    (Prank::Starves(713), "memory", 3),
 ];
 
 /// A run by so many workers tells the fault, and nothing is written.
@@ -162,11 +114,11 @@ fn check_case<R: Abort + Threads + Wait + Sync>(
     workers: usize,
     case: Case,
 ) -> Result<(), Fail> {
-    assert!(rt; 0 < workers);
-    assert!(rt; workers <= 64);
+    assert!(rt; 0 < workers && workers <= 64);
+    let (prank, text, status) = case;
     let mut program = Watched::new(FIB);
     let mut output = Watched::new(Vec::new(alloc));
-    let door = PrankDoor::new(case.prank);
+    let door = PrankDoor::new(prank);
     match run_text(
         rt,
         alloc,
@@ -177,10 +129,10 @@ fn check_case<R: Abort + Threads + Wait + Sync>(
         &mut output,
         1_000_000,
     ) {
-        Ok(status) => equal(rt, &(case.prank, workers), &Some(status), &None),
-        Err(fault) => check_told(rt, alloc, &fault, case.text, case.status)?,
+        Ok(found) => equal(rt, &(prank, workers), &Some(found), &None),
+        Err(fault) => check_told(rt, alloc, &fault, text, status)?,
     }
-    equal(rt, &(case.prank, workers), &output.calls(), &0);
+    equal(rt, &(prank, workers), &output.calls(), &0);
     Ok(())
 }
 

@@ -106,15 +106,6 @@ fn growths_of(alloc: Global, call: Call) -> Result<u64, u64> {
     Err(ENDLESS)
 }
 
-/// Does so with each of these calls. Each has growths, which have an end.
-fn check_all(rt: &impl Abort, alloc: Global, calls: &[(&str, Call)]) {
-    for (name, call) in calls {
-        let growths = growths_of(alloc, *call);
-        let is_right = matches!(growths, Ok(count) if 0 < count);
-        equal(rt, &(name, growths), &is_right, &true);
-    }
-}
-
 const OF_STRANDS: &[(&str, Call)] = &[
     ("OrderList::new", Call::List(lists::Call::New)),
     ("OrderList::reserve", Call::List(lists::Call::Reserve)),
@@ -138,11 +129,6 @@ const OF_STRANDS: &[(&str, Call)] = &[
     ("Shadow::new", Call::Kept(kept::Call::NewShadow)),
 ];
 
-#[test]
-fn strands_and_what_is_kept_of_them(rt: HostRuntime) {
-    check_all(&rt, rt.alloc(), OF_STRANDS);
-}
-
 const OF_TRACES: &[(&str, Call)] = &[
     ("Trace::parse", Call::Trace(traces::Call::Parse)),
     ("Trace::print", Call::Trace(traces::Call::Print)),
@@ -150,22 +136,12 @@ const OF_TRACES: &[(&str, Call)] = &[
     ("cell_name", Call::Trace(traces::Call::Name)),
 ];
 
-#[test]
-fn traces_and_their_texts(rt: HostRuntime) {
-    check_all(&rt, rt.alloc(), OF_TRACES);
-}
-
 const OF_GATES: &[(&str, Call)] = &[
     ("Gate::new", Call::Gate(gates::Call::New)),
     ("Gate::judge", Call::Gate(gates::Call::Judge)),
     ("judge_all", Call::Gate(gates::Call::JudgeAll)),
     ("verdict_lines", Call::Gate(gates::Call::Tell)),
 ];
-
-#[test]
-fn gates_and_lists_of_requests(rt: HostRuntime) {
-    check_all(&rt, rt.alloc(), OF_GATES);
-}
 
 const OF_PROGRAMS: &[(&str, Call)] = &[
     ("Program::parse", Call::Program(programs::Call::Parse)),
@@ -179,11 +155,6 @@ const OF_PROGRAMS: &[(&str, Call)] = &[
     ("elide", Call::Program(programs::Call::Elide)),
     ("replay", Call::Program(programs::Call::Replay)),
 ];
-
-#[test]
-fn programs_and_what_is_done_with_them(rt: HostRuntime) {
-    check_all(&rt, rt.alloc(), OF_PROGRAMS);
-}
 
 const OF_COMMANDS: &[(&str, Call)] = &[
     ("judge_stream", Call::Command(commands::Command::Judge)),
@@ -199,7 +170,20 @@ const OF_COMMANDS: &[(&str, Call)] = &[
     ),
 ];
 
+/// Each of these calls has growths, which have an end.
+fn check_all(rt: &impl Abort, alloc: Global, calls: &[(&str, Call)]) {
+    for (name, call) in calls {
+        let growths = growths_of(alloc, *call);
+        let is_right = matches!(growths, Ok(count) if 0 < count);
+        equal(rt, &(name, growths), &is_right, &true);
+    }
+}
+
 #[test]
-fn commands_and_what_they_write(rt: HostRuntime) {
+fn calls_whose_growths_are_refused(rt: HostRuntime) {
+    check_all(&rt, rt.alloc(), OF_STRANDS);
+    check_all(&rt, rt.alloc(), OF_TRACES);
+    check_all(&rt, rt.alloc(), OF_GATES);
+    check_all(&rt, rt.alloc(), OF_PROGRAMS);
     check_all(&rt, rt.alloc(), OF_COMMANDS);
 }

@@ -1,12 +1,20 @@
-//! Tests of hostile use, a module for each way, and the gates that they put round a gate: growths that are refused, one after another,
-//! gates that stop, want memory or answer another request, and what a command says of these, histories and receipts that are not those of
-//! a run, texts that break off, and limits.
+//! Tests of hostile use and of the commands, a module for each way, and the gates and devices that they put in place of others: growths
+//! that are refused, one after another, gates that stop, want memory or answer another request, and what a command says of these,
+//! histories and receipts that are not those of a run, texts that break off, limits, readers and writers that fail, jobs over hosts in
+//! memory, and doors.
 //!
-//! They make public calls alone, and stand apart from the tests of the layers so that both are proved beside one another.
+//! What the program prints for a text that it can read stands in the files of tests/, which .ci/sessions compares.
+//!
+//! They make public calls alone, and stand apart from the tests of the layers so that both are proved beside one another. They are one
+//! crate, since the libraries are read anew for the proof of each.
 #![tactic(auto)]
 
 #[cfg(test)]
 mod checks;
+#[cfg(test)]
+mod commands;
+#[cfg(test)]
+mod devices;
 #[cfg(test)]
 mod faults;
 #[cfg(test)]

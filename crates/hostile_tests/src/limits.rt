@@ -31,7 +31,7 @@ fn text_of(alloc: Global, lines: Lines) -> Result<String, AllocError> {
     Ok(text)
 }
 
-fn check_lines(rt: &impl Abort, alloc: Global, lines: Lines) -> Result<(), AllocError> {
+fn check(rt: &impl Abort, alloc: Global, lines: Lines) -> Result<(), AllocError> {
     let text = text_of(alloc, lines)?;
     let found = if lines.is_program {
         meant_by(alloc, text.as_bytes())
@@ -39,13 +39,6 @@ fn check_lines(rt: &impl Abort, alloc: Global, lines: Lines) -> Result<(), Alloc
         found_of(alloc, text.as_bytes())
     };
     equal(rt, &lines.count, &found, &Some(lines.wanted));
-    Ok(())
-}
-
-fn check_all(rt: &impl Abort, alloc: Global, texts: &[Lines]) -> Result<(), AllocError> {
-    for lines in texts {
-        check_lines(rt, alloc, *lines)?;
-    }
     Ok(())
 }
 
@@ -77,27 +70,23 @@ macro_rules! program_of {
     };
 }
 
-const TRACES: &[Lines] = &[
+const TEXTS: &[Lines] = &[
+    // Requests and lines of a trace.
     trace_of!("sync 0\n", 2_000_000, Ok(2_000_000)),
     trace_of!("sync 0\n", 2_000_001, Err((2_000_002, Cause::TooMany))),
     trace_of!("\n", 3_999_999, Ok(0)),
     trace_of!("\n", 4_000_000, Err((4_000_001, Cause::TooMany))),
-];
-
-#[test]
-fn requests_and_lines_of_a_trace(rt: HostRuntime) -> Result<(), Fail> {
-    Ok(check_all(&rt, rt.alloc(), TRACES)?)
-}
-
-// A function is known also where it begins past the last line that a program may have, so the call of it is no fault.
-const PROGRAMS: &[Lines] = &[
+    // A function is known also where it begins past the last line that a program may have, so the call of it is no fault.
     program_of!(3_999_994, Ok(2)),
     program_of!(3_999_996, Err((4_000_001, Cause::TooMany))),
 ];
 
 #[test]
-fn a_function_past_the_last_line(rt: HostRuntime) -> Result<(), Fail> {
-    Ok(check_all(&rt, rt.alloc(), PROGRAMS)?)
+fn requests_and_lines_of_a_text(rt: HostRuntime) -> Result<(), Fail> {
+    for lines in TEXTS {
+        check(&rt, rt.alloc(), *lines)?;
+    }
+    Ok(())
 }
 
 const CALL: Request = Request {
@@ -158,21 +147,14 @@ fn large_gate(alloc: Global) -> Result<Gate<Global>, AllocError> {
     Gate::new(alloc, &shape, 1_000_000)
 }
 
-/// The gate answers as many requests as there may be entries.
-fn fill(gate: &mut Gate<Global>) -> bool {
+/// The gate answers as many requests as there may be, and no more.
+fn is_filled(gate: &mut Gate<Global>) -> bool {
     for _ in 0..1_000_000 {
         if gate.judge(CALL).is_err() {
             return false;
         }
     }
-    true
-}
-
-/// The gate answers as many requests as there may be, and no more.
-fn is_filled(gate: &mut Gate<Global>) -> bool {
-    fill(gate)
-        && matches!(gate.judge(CALL), Err(GateFault::Limit))
-        && gate.history().len() == 1_000_000
+    matches!(gate.judge(CALL), Err(GateFault::Limit)) && gate.history().len() == 1_000_000
 }
 
 #[test]

@@ -1,8 +1,7 @@
-//! Growths refused of a gate behind its lock and of what is gathered of it, each in turn, over a heap of the test.
+//! A growth refused of a gate behind its lock, or of what is gathered of it, over a heap of the test.
 
 ghost use Rattle.std.specs.Prelude.{◌≡◌};
 
-use crate::checks::equal;
 use crate::receipts::PAIR_REQUESTS;
 use crate::refusing::Refusing;
 use crate::rounds::gate_for;
@@ -13,7 +12,6 @@ use program_text::Program;
 use race_gate::GateFault;
 use std::alloc::Global;
 use std::marker::Brand;
-use std::process::Abort;
 use std::sync::Wait;
 use std::sync::ledger::{Blank, Ledger};
 use text_words::Request;
@@ -23,8 +21,10 @@ pub type Heap = Refusing<Global>;
 
 /// A call of which a growth is refused.
 #[derive(Clone, Copy, Debug)]
-enum Call {
+pub enum Call {
+    /// PAIR's requests are asked.
     Ask,
+    /// PAIR's run is gathered.
     Gather,
 }
 
@@ -168,45 +168,8 @@ fn gathers<L: Ledger, R: Wait>(
 }
 
 /// Does so, and once more with all memory.
-fn found_of<R: Wait>(rt: &R, alloc: Global, call: Call, number: u64) -> Option<Found> {
-    let heap = Refusing::new(alloc);
-    let found = gathers::<Brand, R>(rt, &heap, call, number, Blank::new(1))?;
-    let again = gathers::<Brand, R>(rt, &heap, call, 0, Blank::new(1))?;
+pub fn found_of<R: Wait>(rt: &R, heap: &Heap, number: u64, call: Call) -> Option<Found> {
+    let found = gathers::<Brand, R>(rt, heap, call, number, Blank::new(1))?;
+    let again = gathers::<Brand, R>(rt, heap, call, 0, Blank::new(1))?;
     (!again.is_told).then_some(found)
-}
-
-/// Where the growths of a call have no end.
-pub const ENDLESS: u64 = 10_000;
-
-/// Refuses the call's first growth, its second, and so on until none is refused. How many refusals it told, or behind how many growths
-/// something was not as it is to be. Each refusal is told while requests are asked. What is gathered releases memory on the way, for which
-/// a list may be moved, and does without what is refused then.
-fn refuse_in_turn<R: Wait>(rt: &R, alloc: Global, call: Call) -> Result<u64, u64> {
-    let mut told = 0u64;
-    for growths in 0..ENDLESS {
-        match found_of(rt, alloc, call, growths.saturating_add(1)) {
-            Some(found) if !found.was_refused && !found.is_told => return Ok(told),
-            Some(found) if found.was_refused && found.is_told => told = told.saturating_add(1),
-            Some(found) if found.was_refused && matches!(call, Call::Gather) => {}
-            _ => return Err(growths),
-        }
-    }
-    Err(ENDLESS)
-}
-
-/// Does so with this call. It tells some.
-fn check_in_turn<R: Abort + Wait>(rt: &R, alloc: Global, call: Call) {
-    let told = refuse_in_turn(rt, alloc, call);
-    let is_right = matches!(told, Ok(count) if 0 < count);
-    equal(rt, &(call, told), &is_right, &true);
-}
-
-#[test]
-fn a_gate_behind_its_lock(rt: HostRuntime) {
-    check_in_turn(&rt, rt.alloc(), Call::Ask);
-}
-
-#[test]
-fn what_is_gathered(rt: HostRuntime) {
-    check_in_turn(&rt, rt.alloc(), Call::Gather);
 }

@@ -142,21 +142,7 @@ fn gather_changed<L: Ledger, R: Wait>(
     }
 }
 
-/// What is gathered for PAIR of these requests, with so changed receipts.
-fn check<R: Abort + Wait>(
-    rt: &R,
-    alloc: Global,
-    program: &Program<Global>,
-    requests: &[Request],
-    changed: Changed,
-    wanted: Result<bool, RunFault>,
-) {
-    let found = gather_changed::<Brand, R>(rt, alloc, Blank::new(1), program, requests, changed);
-    equal(rt, &changed.at, &found, &wanted);
-}
-
 /// Requests, and what is gathered of them with any of these changes.
-#[derive(Clone, Copy)]
 struct Case {
     requests: &'static [Request],
     changes: &'static [Changed],
@@ -164,19 +150,12 @@ struct Case {
 }
 
 /// So it is with each of the changes.
-fn check_changes<R: Abort + Wait>(rt: &R, alloc: Global, program: &Program<Global>, case: Case) {
+fn check_changes<R: Abort + Wait>(rt: &R, alloc: Global, program: &Program<Global>, case: &Case) {
     for changed in case.changes {
-        check(rt, alloc, program, case.requests, *changed, case.wanted);
+        let blank = Blank::new(1);
+        let found = gather_changed::<Brand, R>(rt, alloc, blank, program, case.requests, *changed);
+        equal(rt, &changed.at, &found, &case.wanted);
     }
-}
-
-/// So it is in each of these cases.
-fn check_all<R: Abort + Wait>(rt: &R, alloc: Global, cases: &[Case]) -> Result<(), Fail> {
-    let program = Program::parse(alloc, PAIR)?;
-    for case in cases {
-        check_changes(rt, alloc, &program, *case);
-    }
-    Ok(())
 }
 
 /// A change of the receipt of this number, counted from 0.
@@ -245,5 +224,9 @@ const CASES: &[Case] = &[
 
 #[test]
 fn receipts_that_are_changed_and_requests_of_no_run(rt: HostRuntime) -> Result<(), Fail> {
-    check_all(&rt, rt.alloc(), CASES)
+    let program = Program::parse(rt.alloc(), PAIR)?;
+    for case in CASES {
+        check_changes(&rt, rt.alloc(), &program, case);
+    }
+    Ok(())
 }

@@ -1,10 +1,10 @@
-//! Growths refused of the lot, of runs by workers and of the command, over a heap of the test: each in turn where one worker runs, whose
-//! growths have an order, and some where more workers run, whose growths have none.
+//! Growths refused of a gate behind its lock, of what is gathered, of the lot, of runs and of the command, over a heap of the test: each in
+//! turn where one worker runs, whose growths have an order, and some where more workers run, whose growths have none.
 
 ghost use Rattle.std.specs.Prelude.{◌≡◌, ◌<◌, ◌≤◌};
 
 use crate::checks::equal;
-use crate::locked_growths::{ENDLESS, Found, Heap};
+use crate::locked_growths::{self, Found, Heap, found_of};
 use crate::refusing::Refusing;
 use crate::rounds::gate_for;
 use crate::worked::SMALL_FIB;
@@ -16,6 +16,7 @@ use std::marker::Brand;
 use std::process::Abort;
 use std::sync::Wait;
 use std::sync::ledger::{Blank, Ledger};
+use std::test::Fail;
 use std::thread::Threads;
 use steal_workers::{Lot, LotFault, Task, run, run_serially};
 use tool_commands::{CliFault, OpenDoor, Watched, run_text};
@@ -26,18 +27,31 @@ const PARTS: u64 = 64;
 /// A call of which a growth is refused.
 #[derive(Clone, Copy, Debug)]
 enum Call {
-    Park,
-    Wake,
-    Run,
-    RunSerially,
-    RunText,
+    /// PAIR's run is asked or gathered.
+    Locked(locked_growths::Call),
+    /// A task or the last child comes for a join.
+    Comes(Comes),
+    /// A program is run.
+    Runs(Kind),
+}
+
+/// How a program is run.
+#[derive(Clone, Copy, Debug)]
+enum Kind {
+    ByWorkers,
+    Serially,
+    /// As the command does.
+    Told,
 }
 
 impl Call {
-    /// Whether each refused growth is told. A run keeps ended frames in reserve, and releases memory before it is gathered, for which a
-    /// list may be moved, and does without what is refused then.
+    /// Whether each refused growth is told. A run keeps ended frames in reserve, and memory is released before a run is gathered and on the
+    /// way, for which a list may be moved; they do without what is refused then.
     fn tells_each(self) -> bool {
-        matches!(self, Call::Park | Call::Wake)
+        matches!(
+            self,
+            Call::Locked(locked_growths::Call::Ask) | Call::Comes(_)
+        )
     }
 }
 
@@ -58,7 +72,7 @@ fn make_root<'h, 'p>(
 const JOIN: u32 = 5;
 
 /// Who comes for the join.
-#[derive(Clone, Copy)]
+#[derive(Clone, Copy, Debug)]
 enum Comes {
     Task,
     Child,
@@ -106,7 +120,7 @@ fn come<'h, 'p, R: Wait>(
 }
 
 /// A task or the last child comes for a join, once more where there was no memory, and then the other one.
-fn meet_in<'h, 'p, R: Wait>(
+fn meet<'h, 'p, R: Wait>(
     rt: &R,
     heap: &'h Heap,
     program: &'p Program<Global>,
@@ -129,14 +143,6 @@ fn meet_in<'h, 'p, R: Wait>(
         was_refused,
         is_told,
     })
-}
-
-/// As [`meet_in`], of a small program.
-fn meet<R: Wait>(rt: &R, alloc: Global, heap: &Heap, number: u64, comes: Comes) -> Option<Found> {
-    let Ok(program) = Program::parse(alloc, SMALL_FIB) else {
-        return None;
-    };
-    meet_in(rt, heap, &program, number, comes)
 }
 
 /// Whether there was no memory for a run of the program, of which every schedule is clean, has as many entries, and leaves the same memory.
@@ -189,29 +195,6 @@ fn lacks_run<R: Threads + Wait + Sync>(
     lacks_memory(&run)
 }
 
-/// Runs by so many workers, and once more with all memory.
-fn run_twice<R: Threads + Wait + Sync>(
-    rt: &R,
-    alloc: Global,
-    heap: &Heap,
-    number: u64,
-    workers: usize,
-) -> Option<Found>
-    requires { (0 < workers) × (workers ≤ 64) }
-{
-    let Ok(program) = Program::parse(alloc, SMALL_FIB) else {
-        return None;
-    };
-    heap.refuse(number);
-    let is_told = lacks_run(rt, heap, &program, workers)?;
-    let was_refused = heap.has_refused();
-    heap.refuse(0);
-    (lacks_run(rt, heap, &program, workers) == Some(false)).then_some(Found {
-        was_refused,
-        is_told,
-    })
-}
-
 /// Whether there is no memory for a run in the serial order, which asks a gate of its own.
 fn lacks_serially(heap: &Heap, program: &Program<Global>) -> Option<bool> {
     let mut gate = match gate_for(heap, program) {
@@ -223,21 +206,6 @@ fn lacks_serially(heap: &Heap, program: &Program<Global>) -> Option<bool> {
         Err(RunFault::Memory) => Some(true),
         Err(_) => None,
     }
-}
-
-/// Runs in the serial order, and once more with all memory.
-fn run_serially_twice(alloc: Global, heap: &Heap, number: u64) -> Option<Found> {
-    let Ok(program) = Program::parse(alloc, SMALL_FIB) else {
-        return None;
-    };
-    heap.refuse(number);
-    let is_told = lacks_serially(heap, &program)?;
-    let was_refused = heap.has_refused();
-    heap.refuse(0);
-    (lacks_serially(heap, &program) == Some(false)).then_some(Found {
-        was_refused,
-        is_told,
-    })
 }
 
 /// What the command writes of it.
@@ -285,21 +253,41 @@ fn lacks_command<R: Threads + Wait + Sync>(
     }
 }
 
-/// Does the command by so many workers, and once more with all memory.
-fn command_twice<R: Threads + Wait + Sync>(
+/// Whether there is no memory for a run of this kind by so many workers.
+fn lacks<R: Threads + Wait + Sync>(
     rt: &R,
     alloc: Global,
     heap: &Heap,
+    program: &Program<Global>,
+    kind: Kind,
+    workers: usize,
+) -> Option<bool>
+    requires { (0 < workers) × (workers ≤ 64) }
+{
+    match kind {
+        Kind::ByWorkers => lacks_run(rt, heap, program, workers),
+        Kind::Serially => lacks_serially(heap, program),
+        Kind::Told => lacks_command(rt, alloc, heap, workers),
+    }
+}
+
+/// Runs where the growth of this number is refused, and once more with all memory.
+fn run_twice<R: Threads + Wait + Sync>(
+    rt: &R,
+    alloc: Global,
+    heap: &Heap,
+    program: &Program<Global>,
     number: u64,
+    kind: Kind,
     workers: usize,
 ) -> Option<Found>
     requires { (0 < workers) × (workers ≤ 64) }
 {
     heap.refuse(number);
-    let is_told = lacks_command(rt, alloc, heap, workers)?;
+    let is_told = lacks(rt, alloc, heap, program, kind, workers)?;
     let was_refused = heap.has_refused();
     heap.refuse(0);
-    (lacks_command(rt, alloc, heap, workers) == Some(false)).then_some(Found {
+    (lacks(rt, alloc, heap, program, kind, workers) == Some(false)).then_some(Found {
         was_refused,
         is_told,
     })
@@ -309,26 +297,32 @@ fn command_twice<R: Threads + Wait + Sync>(
 fn find<R: Threads + Wait + Sync>(
     rt: &R,
     alloc: Global,
-    heap: &Heap,
+    program: &Program<Global>,
     number: u64,
     call: Call,
 ) -> Option<Found> {
+    let heap = Refusing::new(alloc);
     match call {
-        Call::Park => meet(rt, alloc, heap, number, Comes::Task),
-        Call::Wake => meet(rt, alloc, heap, number, Comes::Child),
-        Call::Run => run_twice(rt, alloc, heap, number, 1),
-        Call::RunSerially => run_serially_twice(alloc, heap, number),
-        Call::RunText => command_twice(rt, alloc, heap, number, 1),
+        Call::Locked(call) => found_of(rt, &heap, number, call),
+        Call::Comes(comes) => meet(rt, &heap, program, number, comes),
+        Call::Runs(kind) => run_twice(rt, alloc, &heap, program, number, kind, 1),
     }
 }
 
+/// Where the growths of a call have no end.
+const ENDLESS: u64 = 10_000;
+
 /// Refuses the call's first growth, its second, and so on until none is refused. How many refusals it told, or behind how many growths
 /// something was not as it is to be.
-fn tell_in_turn<R: Threads + Wait + Sync>(rt: &R, alloc: Global, call: Call) -> Result<u64, u64> {
+fn tell_in_turn<R: Threads + Wait + Sync>(
+    rt: &R,
+    alloc: Global,
+    program: &Program<Global>,
+    call: Call,
+) -> Result<u64, u64> {
     let mut told = 0u64;
     for growths in 0..ENDLESS {
-        let heap = Refusing::new(alloc);
-        match find(rt, alloc, &heap, growths.saturating_add(1), call) {
+        match find(rt, alloc, program, growths.saturating_add(1), call) {
             Some(found) if !found.was_refused && !found.is_told => return Ok(told),
             Some(found) if found.was_refused && found.is_told => told = told.saturating_add(1),
             Some(found) if found.was_refused && !call.tells_each() => {}
@@ -338,36 +332,26 @@ fn tell_in_turn<R: Threads + Wait + Sync>(rt: &R, alloc: Global, call: Call) -> 
     Err(ENDLESS)
 }
 
-/// Does so with this call, which tells at least so many.
-fn check_in_turn<R: Abort + Threads + Wait + Sync>(rt: &R, alloc: Global, call: Call, least: u64) {
-    let told = tell_in_turn(rt, alloc, call);
-    let is_right = matches!(told, Ok(count) if least <= count);
-    equal(rt, &(call, told), &is_right, &true);
-}
+/// Calls, and how many refusals each tells at least.
+const CALLS: &[(Call, u64)] = &[
+    (Call::Locked(locked_growths::Call::Ask), 1),
+    (Call::Locked(locked_growths::Call::Gather), 1),
+    (Call::Comes(Comes::Task), 3),
+    (Call::Comes(Comes::Child), 1),
+    (Call::Runs(Kind::ByWorkers), 20),
+    (Call::Runs(Kind::Serially), 10),
+    (Call::Runs(Kind::Told), 20),
+];
 
 #[test]
-fn a_task_that_waits_for_its_join(rt: HostRuntime) {
-    check_in_turn(&rt, rt.alloc(), Call::Park, 3);
-}
-
-#[test]
-fn a_join_that_wakes(rt: HostRuntime) {
-    check_in_turn(&rt, rt.alloc(), Call::Wake, 1);
-}
-
-#[test]
-fn a_run_by_one_worker(rt: HostRuntime) {
-    check_in_turn(&rt, rt.alloc(), Call::Run, 20);
-}
-
-#[test]
-fn a_run_in_the_serial_order(rt: HostRuntime) {
-    check_in_turn(&rt, rt.alloc(), Call::RunSerially, 10);
-}
-
-#[test]
-fn the_command_by_one_worker(rt: HostRuntime) {
-    check_in_turn(&rt, rt.alloc(), Call::RunText, 20);
+fn calls_whose_growths_are_refused(rt: HostRuntime) -> Result<(), Fail> {
+    let program = Program::parse(rt.alloc(), SMALL_FIB)?;
+    for (call, least) in CALLS {
+        let told = tell_in_turn(&rt, rt.alloc(), &program, *call);
+        let is_right = matches!(told, Ok(count) if *least <= count);
+        equal(&rt, &(*call, told), &is_right, &true);
+    }
+    Ok(())
 }
 
 /// How many runs by each number of workers have a growth refused.
@@ -390,38 +374,30 @@ fn is_borne_out(found: Option<Found>) -> bool {
     }
 }
 
-/// Runs by so many workers, each with a growth refused, go well or tell it.
-fn check_runs<R: Abort + Threads + Wait + Sync>(rt: &R, alloc: Global, workers: usize)
+/// Runs of this kind by so many workers, each with a growth refused, go well or tell it.
+fn check_runs<R: Abort + Threads + Wait + Sync>(
+    rt: &R,
+    alloc: Global,
+    program: &Program<Global>,
+    kind: Kind,
+    workers: usize,
+)
     requires { (0 < workers) × (workers ≤ 64) }
 {
     for run in 0..RUNS {
         let number = draw_number(run);
         let heap = Refusing::new(alloc);
-        let found = run_twice(rt, alloc, &heap, number, workers);
-        equal(rt, &(workers, number), &is_borne_out(found), &true);
+        let found = run_twice(rt, alloc, &heap, program, number, kind, workers);
+        equal(rt, &(kind, workers, number), &is_borne_out(found), &true);
     }
 }
 
 #[test]
-fn runs_by_more_workers(rt: HostRuntime) {
-    check_runs(&rt, rt.alloc(), 2);
-    check_runs(&rt, rt.alloc(), 8);
-}
-
-/// The command by so many workers, each time with a growth refused, goes well or tells it.
-fn check_commands<R: Abort + Threads + Wait + Sync>(rt: &R, alloc: Global, workers: usize)
-    requires { (0 < workers) × (workers ≤ 64) }
-{
-    for run in 0..RUNS {
-        let number = draw_number(run);
-        let heap = Refusing::new(alloc);
-        let found = command_twice(rt, alloc, &heap, number, workers);
-        equal(rt, &(workers, number), &is_borne_out(found), &true);
+fn runs_by_more_workers(rt: HostRuntime) -> Result<(), Fail> {
+    let program = Program::parse(rt.alloc(), SMALL_FIB)?;
+    for kind in &[Kind::ByWorkers, Kind::Told] {
+        check_runs(&rt, rt.alloc(), &program, *kind, 2);
+        check_runs(&rt, rt.alloc(), &program, *kind, 8);
     }
-}
-
-#[test]
-fn the_command_by_more_workers(rt: HostRuntime) {
-    check_commands(&rt, rt.alloc(), 2);
-    check_commands(&rt, rt.alloc(), 8);
+    Ok(())
 }

@@ -58,27 +58,15 @@ fn check_runs<R: Abort + Threads + Wait + Sync>(
 }
 
 /// So it is by each number of workers.
-fn check_program<R: Abort + Threads + Wait + Sync>(
-    rt: &R,
-    alloc: Global,
-    program: &Program<Global>,
-    clean: Clean<'_>,
-) {
-    for workers in clean.workers {
-        assert!(rt; 0 < *workers && *workers <= 64);
-        check_runs(rt, alloc, program, clean, *workers);
-    }
-}
-
-/// So it is with each of these programs.
 fn check<R: Abort + Threads + Wait + Sync>(
     rt: &R,
     alloc: Global,
-    programs: &[Clean<'_>],
+    clean: Clean<'_>,
 ) -> Result<(), Fail> {
-    for clean in programs {
-        let program = Program::parse(alloc, clean.text)?;
-        check_program(rt, alloc, &program, *clean);
+    let program = Program::parse(alloc, clean.text)?;
+    for workers in clean.workers {
+        assert!(rt; 0 < *workers && *workers <= 64);
+        check_runs(rt, alloc, &program, clean, *workers);
     }
     Ok(())
 }
@@ -110,16 +98,19 @@ const PROGRAMS: &[Clean<'static>] = &[
 
 #[test]
 fn programs_by_any_number(rt: HostRuntime) -> Result<(), Fail> {
-    check(&rt, rt.alloc(), PROGRAMS)
+    for clean in PROGRAMS {
+        check(&rt, rt.alloc(), *clean)?;
+    }
+    Ok(())
 }
 
-const BY_ALL: &[Clean<'static>] = &[Clean {
+const BY_ALL: Clean<'static> = Clean {
     text: FIB,
     entries: 713,
     memory: &[55],
     times: 25,
     workers: &[64],
-}];
+};
 
 #[test]
 fn fibonacci_by_all(rt: HostRuntime) -> Result<(), Fail> {

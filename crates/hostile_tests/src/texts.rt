@@ -24,19 +24,11 @@ fn print_program(alloc: Global, text: &[u8]) -> Option<Vec<u8>> {
     }
 }
 
-/// Whether a text means the program that is printed so.
-fn means(alloc: Global, text: &[u8], wanted: &[u8]) -> bool {
-    match print_program(alloc, text) {
-        Some(printed) => printed.as_slice() == wanted,
-        None => false,
-    }
-}
-
 /// Whether two texts mean one program.
 fn mean_one(alloc: Global, one: &[u8], other: &[u8]) -> bool {
-    match print_program(alloc, other) {
-        Some(wanted) => means(alloc, one, wanted.as_slice()),
-        None => false,
+    match (print_program(alloc, one), print_program(alloc, other)) {
+        (Some(found), Some(wanted)) => found.as_slice() == wanted.as_slice(),
+        _ => false,
     }
 }
 

@@ -110,53 +110,25 @@ struct Found {
     has_starved: bool,
 }
 
-fn judge(alloc: Global, heap: &Heap) -> Ended {
-    let mut input = Watched::new(SPAWNING);
-    let mut output = Watched::new(Vec::new(alloc));
-    let answer = judge_stream(heap, &mut input, &mut output, MOST);
-    Ended {
-        answer,
-        output: output.into_inner(),
-    }
-}
-
-fn elide_fib(alloc: Global, heap: &Heap) -> Ended {
-    let mut program = Watched::new(FIB);
-    let mut output = Watched::new(Vec::new(alloc));
-    let answer = elide_text(heap, &mut program, &mut output, MOST);
-    Ended {
-        answer,
-        output: output.into_inner(),
-    }
-}
-
-fn replay_pair(alloc: Global, heap: &Heap) -> Ended {
-    let mut program = Watched::new(PAIR);
-    let mut trace = Watched::new(PAIR_TRACE);
-    let mut output = Watched::new(Vec::new(alloc));
-    let answer = replay_text(heap, &mut program, &mut trace, &mut output);
-    Ended {
-        answer,
-        output: output.into_inner(),
-    }
-}
-
-fn draw(alloc: Global, heap: &Heap, form: Form) -> Ended {
-    let mut trace = Watched::new(NOTED);
-    let mut output = Watched::new(Vec::new(alloc));
-    let answer = draw_text(heap, form, &mut trace, &mut output);
-    Ended {
-        answer,
-        output: output.into_inner(),
-    }
-}
-
 fn perform(alloc: Global, heap: &Heap, command: Command) -> Ended {
-    match command {
-        Command::Judge => judge(alloc, heap),
-        Command::Elide => elide_fib(alloc, heap),
-        Command::Replay => replay_pair(alloc, heap),
-        Command::Draw(form) => draw(alloc, heap, form),
+    let mut output = Watched::new(Vec::new(alloc));
+    let answer = match command {
+        Command::Judge => judge_stream(heap, &mut Watched::new(SPAWNING), &mut output, MOST),
+        Command::Elide => elide_text(heap, &mut Watched::new(FIB), &mut output, MOST),
+        Command::Replay => {
+            let mut program = Watched::new(PAIR);
+            replay_text(
+                heap,
+                &mut program,
+                &mut Watched::new(PAIR_TRACE),
+                &mut output,
+            )
+        }
+        Command::Draw(form) => draw_text(heap, form, &mut Watched::new(NOTED), &mut output),
+    };
+    Ended {
+        answer,
+        output: output.into_inner(),
     }
 }
 

@@ -2,7 +2,7 @@
 
 use super::Command::Run;
 use super::Wanted::{Among, Text};
-use super::{MOST, Outcome, Wanted, check, meets, outcome_of};
+use super::{MOST, Wanted, check, meets, outcome_of};
 use std::alloc::Global;
 use std::process::Abort;
 use std::sync::Wait;
@@ -52,22 +52,9 @@ const WORKERS: &[usize] = &[1, 2, 8, 64];
 fn runs_that_no_door_decides(rt: HostRuntime) {
     let wanted = Among(1, REPORTS);
     for workers in WORKERS {
-        let command = Run(*workers, MOST);
+        let command = Run(*workers);
         check(&rt, rt.alloc(), command, PAIR.as_bytes(), wanted);
     }
-}
-
-/// What comes of a run of PAIR by two workers through a door.
-fn run_pair<D: Door + Sync, R: Threads + Wait + Sync>(
-    rt: &R,
-    alloc: Global,
-    door: &D,
-    wanted: Wanted<'_>,
-) -> Outcome {
-    let mut program = Watched::new(PAIR.as_bytes());
-    let mut output = Watched::new(wanted.writer(alloc));
-    let answer = run_text(rt, alloc, alloc, &mut program, 2, door, &mut output, MOST);
-    outcome_of(answer, &program, output)
 }
 
 /// A run of PAIR by two workers through a door does what is wanted.
@@ -77,8 +64,10 @@ fn check_pair<D: Door + Sync, R: Abort + Threads + Wait + Sync>(
     door: &D,
     wanted: Wanted<'_>,
 ) {
-    let outcome = run_pair(rt, alloc, door, wanted);
-    meets(rt, alloc, &outcome, wanted);
+    let mut program = Watched::new(PAIR.as_bytes());
+    let mut output = Watched::new(wanted.writer(alloc));
+    let answer = run_text(rt, alloc, alloc, &mut program, 2, door, &mut output, MOST);
+    meets(rt, alloc, &outcome_of(answer, &program, output), wanted);
 }
 
 const TURNS: u32 = 1_000_000;

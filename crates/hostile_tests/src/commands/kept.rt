@@ -7,7 +7,7 @@ ghost use Rattle.command_streams.specs.Watched.{has_failed};
 use super::Command::{Explain, ExplainAsJson};
 use super::Wanted::Text;
 use super::pieces::{LATE, Long, RETURNS, WIDE, check_broken};
-use super::{Command, MOST, Wanted, check};
+use super::{Command, Wanted, check};
 use crate::devices::Giving;
 use command_streams::{KeptText, read_kept};
 use std::alloc::{AllocError, Global};
@@ -149,33 +149,21 @@ fn check_long<R: Abort + Threads + Wait + Sync>(
     Ok(())
 }
 
-/// Texts in which nothing is refused, and what is told of them.
-const CLEAN: &[(Long, Wanted<'static>)] = &[
-    (PLAIN, clean!("20000 requests")),
-    (UNENDED, clean!("20001 requests")),
-    (ZERO, clean!("20001 requests")),
-    (BLANK, clean!("20001 requests")),
-    (REMARKS, clean!("20000 requests")),
-    (RETURNS, clean!("20001 requests")),
-    (WIDE, clean!("2 requests")),
-    (LATE, clean!("1 request")),
-];
-
-/// Others that are explained.
-const EXPLAINED: &[(Long, Wanted<'static>)] = &[
-    (RECORDED, Text(0, RECORDED_TOLD)),
-    (RACED, Text(1, RACED_TOLD)),
-    (FAULTY, Text(2, FAULTY_TOLD)),
-    (ENDED, Text(2, ENDED_TOLD)),
-    (PROGRAM, Text(0, PROGRAM_TOLD)),
-];
-
-/// Texts of which all behind the first piece are plain lines of requests.
-const PLAIN_BEHIND: &[Long] = &[PLAIN, RACED, ENDED];
-
-/// Others.
-const OTHERS: &[Long] = &[
-    UNENDED, ZERO, BLANK, REMARKS, RETURNS, WIDE, LATE, RECORDED, FAULTY, PROGRAM,
+/// Texts, and whether all behind the first piece are plain lines of requests.
+const KEPT: &[(Long, bool)] = &[
+    (PLAIN, true),
+    (RACED, true),
+    (ENDED, true),
+    (UNENDED, false),
+    (ZERO, false),
+    (BLANK, false),
+    (REMARKS, false),
+    (RETURNS, false),
+    (WIDE, false),
+    (LATE, false),
+    (RECORDED, false),
+    (FAULTY, false),
+    (PROGRAM, false),
 ];
 
 /// The text that is kept, and whether only its head stands as it was read.
@@ -192,59 +180,50 @@ fn check_kept(rt: &impl Abort, alloc: Global, long: Long, is_plain: bool) -> Res
     let mut reader = Watched::new(text.as_bytes());
     let source = read_kept(alloc, &mut reader)?;
     let (given, is_packed) = kept_text(alloc, &source)?;
-    assert_eq!(rt; given.as_slice() == text.as_bytes(), true);
-    assert_eq!(rt; is_packed, is_plain);
+    assert!(rt; given.as_slice() == text.as_bytes() && is_packed == is_plain);
     Ok(())
 }
 
-/// Of plain lines of requests no text is kept, and it is given again.
+/// Of plain lines of requests no text is kept, and it is given again; others are kept as they stand.
 #[test]
 fn plain_lines_are_kept_as_requests(rt: HostRuntime) -> Result<(), Fail> {
-    for long in PLAIN_BEHIND {
-        check_kept(&rt, rt.alloc(), *long, true)?;
+    for (long, is_plain) in KEPT {
+        check_kept(&rt, rt.alloc(), *long, *is_plain)?;
     }
     Ok(())
 }
 
-#[test]
-fn other_lines_are_kept_as_they_stand(rt: HostRuntime) -> Result<(), Fail> {
-    for long in OTHERS {
-        check_kept(&rt, rt.alloc(), *long, false)?;
-    }
-    Ok(())
-}
-
-/// Each text is explained so.
-fn check_explained<R: Abort + Threads + Wait + Sync>(
-    rt: &R,
-    alloc: Global,
-    cases: &[(Long, Wanted<'_>)],
-) -> Result<(), Fail> {
-    for (long, wanted) in cases {
-        check_long(rt, alloc, Explain(2, MOST), *long, *wanted)?;
-    }
-    Ok(())
-}
+/// Commands over long texts, and what is told.
+const TOLD: &[(Command<'static>, Long, Wanted<'static>)] = &[
+    // Nothing is refused.
+    (Explain, PLAIN, clean!("20000 requests")),
+    (Explain, UNENDED, clean!("20001 requests")),
+    (Explain, ZERO, clean!("20001 requests")),
+    (Explain, BLANK, clean!("20001 requests")),
+    (Explain, REMARKS, clean!("20000 requests")),
+    (Explain, RETURNS, clean!("20001 requests")),
+    (Explain, WIDE, clean!("2 requests")),
+    (Explain, LATE, clean!("1 request")),
+    // Others.
+    (Explain, RECORDED, Text(0, RECORDED_TOLD)),
+    (Explain, RACED, Text(1, RACED_TOLD)),
+    (Explain, FAULTY, Text(2, FAULTY_TOLD)),
+    (Explain, ENDED, Text(2, ENDED_TOLD)),
+    (Explain, PROGRAM, Text(0, PROGRAM_TOLD)),
+    (ExplainAsJson, RACED, Text(1, RACED_RECORD)),
+];
 
 /// Behind the first piece a text goes on with plain lines of requests, or with others, and the same is told as of a short text.
 #[test]
 fn long_texts_are_explained(rt: HostRuntime) -> Result<(), Fail> {
-    check_explained(&rt, rt.alloc(), EXPLAINED)
-}
-
-#[test]
-fn long_clean_traces_are_explained(rt: HostRuntime) -> Result<(), Fail> {
-    check_explained(&rt, rt.alloc(), CLEAN)
-}
-
-#[test]
-fn a_long_trace_is_told_as_json(rt: HostRuntime) -> Result<(), Fail> {
-    let wanted = Text(1, RACED_RECORD);
-    check_long(&rt, rt.alloc(), ExplainAsJson(MOST), RACED, wanted)
+    for (command, long, wanted) in TOLD {
+        check_long(&rt, rt.alloc(), *command, *long, *wanted)?;
+    }
+    Ok(())
 }
 
 /// A reader that fails behind the first piece, among plain lines of requests.
 #[test]
 fn a_failure_behind_the_first_piece(rt: HostRuntime) -> Result<(), Fail> {
-    check_broken(&rt, rt.alloc(), Explain(2, MOST), PLAIN, 150_000)
+    check_broken(&rt, rt.alloc(), Explain, PLAIN, 150_000)
 }

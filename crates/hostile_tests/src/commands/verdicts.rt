@@ -1,15 +1,8 @@
-//! Faults and replies that no text shows.
+//! Replies that no text shows.
 
-use super::is_fault;
 use model_histories::{Answer, GateFault, Receipt, Reply};
-use text_words::{Act, Request, TextFault};
-use tool_commands::{CliFault, status_of};
-
-#[test]
-fn want_of_memory_for_a_text(rt: HostRuntime) {
-    let fault = CliFault::from(TextFault::Memory);
-    assert!(rt; is_fault(rt.alloc(), &fault, 3, "memory"));
-}
+use text_words::{Act, Request};
+use tool_commands::status_of;
 
 const UNSET: Reply = Reply::Done(Receipt {
     number: 1,

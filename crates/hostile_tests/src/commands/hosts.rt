@@ -6,12 +6,11 @@ ghost use Rattle.command_jobs.specs.Performed.{IsAlone};
 ghost use Rattle.command_streams.specs.Sources.{unknown_sources};
 
 use super::Wanted::Text;
-use super::{MOST, Outcome, Takes, Wanted, is_ended, meets, outcome_of};
+use super::{MOST, Outcome, Takes, is_ended, meets, outcome_of};
 use crate::devices::{Breaking, Filling};
 use command_jobs::{Host, Job, Watched, perform, perform_alone};
 use std::alloc::{AllocError, Global};
 use std::io::{self, Error, ErrorKind};
-use std::process::Abort;
 use std::sync::Wait;
 use std::test::Fail;
 use std::thread::Threads;
@@ -105,29 +104,6 @@ fn perform_alone_over(alloc: Global, texts: Texts<'_>, job: &Job) -> Outcome
     outcome_of(answer, &host, output)
 }
 
-/// Of the job comes what is wanted.
-fn check_job<R: Abort + Threads + Wait + Sync>(
-    rt: &R,
-    alloc: Global,
-    texts: Texts<'_>,
-    job: &Job,
-    wanted: Wanted<'_>,
-)
-    requires { IsInRange job.now }
-{
-    let outcome = perform_over(rt, alloc, texts, job);
-    meets(rt, alloc, &outcome, wanted);
-}
-
-/// The same of a job that starts no thread, by the call for such jobs.
-fn check_job_alone(rt: &impl Abort, alloc: Global, texts: Texts<'_>, job: &Job, wanted: Wanted<'_>)
-    requires ranges { IsInRange job.now }
-    requires alone { IsAlone job.now }
-{
-    let outcome = perform_alone_over(alloc, texts, job);
-    meets(rt, alloc, &outcome, wanted);
-}
-
 /// The job that shows this text.
 fn show_job(alloc: Global, text: &str) -> Result<Job, AllocError>
     ensures ranges { IfOk result IsInRange }
@@ -148,8 +124,10 @@ const NOTHING: Texts<'static> = Texts {
 fn a_text_that_is_shown(rt: HostRuntime) -> Result<(), Fail> {
     let job = show_job(rt.alloc(), "one\ntwo\n")?;
     let wanted = Text(0, "one\ntwo\n");
-    check_job(&rt, rt.alloc(), NOTHING, &job, wanted);
-    check_job_alone(&rt, rt.alloc(), NOTHING, &job, wanted);
+    let told = perform_over(&rt, rt.alloc(), NOTHING, &job);
+    meets(&rt, rt.alloc(), &told, wanted);
+    let told = perform_alone_over(rt.alloc(), NOTHING, &job);
+    meets(&rt, rt.alloc(), &told, wanted);
     Ok(())
 }
 

@@ -16,35 +16,6 @@ const SHORT_TRACE: &str = "cilk 1\nsync 0 @3\nreturn 0 @3\n";
 const SHORT_REPORT: &str =
     "{\"clean\":true,\"entries\":2,\"memory\":{},\"refusals\":[],\"schedules\":\"clean for every schedule\"}\n";
 
-/// What is wanted of the run of SHORT that is recorded.
-#[derive(Clone, Copy)]
-enum Told {
-    /// The writer of its trace takes so many calls: where they are too few that is told, and no report is written.
-    TraceTaken(Takes),
-    /// The writer of its report takes so many calls, which are too few: that is told, and the trace stands.
-    ReportTaken(Takes),
-}
-
-use Told::{ReportTaken, TraceTaken};
-
-impl Told {
-    /// How the writer of the trace takes what is written.
-    fn trace_takes(self) -> Takes {
-        match self {
-            TraceTaken(takes) => takes,
-            ReportTaken(_) => Takes::All,
-        }
-    }
-
-    /// How that of the report does.
-    fn report_takes(self) -> Takes {
-        match self {
-            ReportTaken(takes) => takes,
-            TraceTaken(_) => Takes::All,
-        }
-    }
-}
-
 /// What a run that is recorded answers, what it wrote, and how its writers fared.
 struct Recorded {
     answer: Result<u8, CliFault>,
@@ -68,11 +39,16 @@ impl Drop for Recorded {
     }
 }
 
-/// Runs SHORT by two workers, and writes the trace of the run and its report.
-fn run_recorded<R: Threads + Wait + Sync>(rt: &R, alloc: Global, told: Told) -> Recorded {
+/// Runs SHORT by two workers, and writes the trace of the run and its report to writers that take what is written so.
+fn run_recorded<R: Threads + Wait + Sync>(
+    rt: &R,
+    alloc: Global,
+    of_trace: Takes,
+    of_report: Takes,
+) -> Recorded {
     let mut program = Watched::new(SHORT.as_bytes());
-    let mut trace = Watched::new(told.trace_takes().writer(alloc));
-    let mut output = Watched::new(told.report_takes().writer(alloc));
+    let mut trace = Watched::new(of_trace.writer(alloc));
+    let mut output = Watched::new(of_report.writer(alloc));
     let answer = run_traced_text(
         rt,
         alloc,
@@ -93,16 +69,17 @@ fn run_recorded<R: Threads + Wait + Sync>(rt: &R, alloc: Global, told: Told) -> 
     }
 }
 
-/// Whether it has ended, no writer has failed, and its trace is written.
-fn is_traced(run: &Recorded) -> bool {
+/// Whether it has ended, no writer has failed, and its trace and its report are written.
+fn is_whole(run: &Recorded) -> bool {
     has_ended(&run.answer, 0)
         && run.trace_delivered
         && !run.trace_failed
         && !run.output_failed
         && run.trace.held.as_slice() == SHORT_TRACE.as_bytes()
+        && run.output.held.as_slice() == SHORT_REPORT.as_bytes()
 }
 
-/// Whether the writer of the trace went along with too few calls.
+/// Whether the writer of the trace went along with too few calls, which is told, and no report is written.
 fn is_trace_cut(run: &Recorded) -> bool {
     matches!(run.answer, Err(CliFault::Unwritten))
         && run.trace_failed
@@ -114,7 +91,7 @@ fn is_trace_cut(run: &Recorded) -> bool {
             .starts_with(run.trace.held.as_slice())
 }
 
-/// Whether the writer of the report went along with too few calls.
+/// Whether the writer of the report went along with too few calls, which is told, and the trace stands.
 fn is_report_cut(run: &Recorded) -> bool {
     matches!(run.answer, Err(CliFault::Write))
         && run.trace_delivered
@@ -122,36 +99,34 @@ fn is_report_cut(run: &Recorded) -> bool {
         && run.trace.held.as_slice() == SHORT_TRACE.as_bytes()
 }
 
-/// Whether it is what is wanted. The writer of the trace takes 30 calls: one for each byte, and the flush.
-fn is_told(run: &Recorded, told: Told) -> bool {
-    match told {
-        TraceTaken(takes) if takes.calls() < 30 => is_trace_cut(run),
-        TraceTaken(_) => { is_traced(run) && run.output.held.as_slice() == SHORT_REPORT.as_bytes() }
-        ReportTaken(_) => is_report_cut(run),
-    }
-}
-
-/// The run is what is wanted.
-fn check_recorded<R: Abort + Threads + Wait + Sync>(rt: &R, alloc: Global, told: Told) {
-    let run = run_recorded(rt, alloc, told);
+/// The run is what is wanted of writers that take so. That of the trace takes 30 calls, one for each byte, and the flush; that of the report
+/// takes 93.
+fn check_recorded<R: Abort + Threads + Wait + Sync>(
+    rt: &R,
+    alloc: Global,
+    of_trace: Takes,
+    of_report: Takes,
+) {
+    let run = run_recorded(rt, alloc, of_trace, of_report);
+    let is_told = if of_trace.calls() < 30 {
+        is_trace_cut(&run)
+    } else if of_report.calls() < 93 {
+        is_report_cut(&run)
+    } else {
+        is_whole(&run)
+    };
     let trace = run.trace.held.as_slice();
-    assert!(rt; is_told(&run, told), "it wrote {trace:?}");
+    assert!(rt; is_told, "it wrote {trace:?}");
 }
 
 #[test]
-fn a_trace_that_cannot_be_written(rt: HostRuntime) {
+fn a_trace_or_its_report_that_cannot_be_written(rt: HostRuntime) {
     for left in 0..32u32 {
-        let told = TraceTaken(Takes::CallsThenErrors(left));
-        check_recorded(&rt, rt.alloc(), told);
-        let told = TraceTaken(Takes::Calls(left));
-        check_recorded(&rt, rt.alloc(), told);
+        for takes in &[Takes::CallsThenErrors(left), Takes::Calls(left)] {
+            check_recorded(&rt, rt.alloc(), *takes, Takes::All);
+        }
     }
-}
-
-#[test]
-fn a_report_that_cannot_be_written_behind_its_trace(rt: HostRuntime) {
     for left in 0..93u32 {
-        let told = ReportTaken(Takes::CallsThenErrors(left));
-        check_recorded(&rt, rt.alloc(), told);
+        check_recorded(&rt, rt.alloc(), Takes::All, Takes::CallsThenErrors(left));
     }
 }

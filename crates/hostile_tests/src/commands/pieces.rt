@@ -2,7 +2,7 @@
 
 use super::Command::Judge;
 use super::Wanted::{Fault, Text, Unread};
-use super::{Command, MOST, Wanted, check, push_number};
+use super::{Command, Wanted, check, push_number};
 use crate::devices::{Breaking, Giving};
 use std::alloc::{AllocError, Global};
 use std::process::Abort;
@@ -53,7 +53,7 @@ fn check_pieces<R: Abort + Threads + Wait + Sync>(
 ) {
     for most in PIECES {
         let reader = Giving { text, most: *most };
-        check(rt, alloc, Judge(MOST), reader, wanted);
+        check(rt, alloc, Judge, reader, wanted);
     }
 }
 
@@ -141,5 +141,5 @@ pub(super) fn check_broken<R: Abort + Threads + Wait + Sync>(
 /// A reader that fails behind the faulty lines, which are 180,035 bytes, is told in place of their fault.
 #[test]
 fn a_failure_behind_a_fault(rt: HostRuntime) -> Result<(), Fail> {
-    check_broken(&rt, rt.alloc(), Judge(MOST), FAULTY, 180_035)
+    check_broken(&rt, rt.alloc(), Judge, FAULTY, 180_035)
 }

@@ -2,7 +2,7 @@
 
 use super::Command::{Draw, Elide, Follow, Judge, Replay, Run, Trace};
 use super::Wanted::{Filled, Interrupted, Text, TooLong, Unread};
-use super::{Command, MOST, Takes, check};
+use super::{Command, Takes, check};
 use crate::devices::{Breaking, Interrupted as InterruptedReader, Spaces};
 use std::alloc::Global;
 use std::io;
@@ -23,28 +23,28 @@ struct Short {
 /// The commands whose two texts, of which one is read through a device, are a program's and a trace's have a row for each.
 const SHORT: &[Short] = &[
     Short {
-        command: Judge(MOST),
+        command: Judge,
         read: "cilk 1\nmem x\nread 0 x\n",
         bytes: 22,
         written: "1 value 0\n",
         calls: 11,
     },
     Short {
-        command: Elide(MOST),
+        command: Elide,
         read: "cilk 1\nmem x\nfunc main z\nend\n",
         bytes: 29,
         written: "x 0\nrequests 2\n",
         calls: 16,
     },
     Short {
-        command: Run(2, MOST),
+        command: Run(2),
         read: "cilk 1\nfunc main z\nend\n",
         bytes: 23,
         written: "{\"clean\":true,\"entries\":2,\"memory\":{},\"refusals\":[],\"schedules\":\"clean for every schedule\"}\n",
         calls: 93,
     },
     Short {
-        command: Trace(2, MOST),
+        command: Trace,
         read: "cilk 1\nfunc main z\nend\n",
         bytes: 23,
         written: "cilk 1\nsync 0 @3\nreturn 0 @3\n",
@@ -85,63 +85,39 @@ fn check_reader<R: Abort + Threads + Wait + Sync>(rt: &R, alloc: Global, short: 
         };
         check(rt, alloc, short.command, Breaking { text, left }, wanted);
     }
+    let reader = InterruptedReader {
+        text,
+        was_asked: false,
+    };
+    check(rt, alloc, short.command, reader, Interrupted);
 }
 
-/// A writer that takes so fails just where it goes along with too few calls.
-fn check_taken<R: Abort + Threads + Wait + Sync>(
-    rt: &R,
-    alloc: Global,
-    short: Short,
-    takes: Takes,
-) {
-    let wanted = Filled(takes, short.calls, short.written);
-    check(rt, alloc, short.command, short.read.as_bytes(), wanted);
-}
-
-/// A writer that takes nothing behind some calls does, and one that answers an error behind them.
+/// A writer that takes nothing behind some calls, or answers an error behind them, fails just where it goes along with too few.
 fn check_writer<R: Abort + Threads + Wait + Sync>(rt: &R, alloc: Global, short: Short) {
+    let text = short.read.as_bytes();
     for left in 0..short.calls.saturating_add(1) {
-        check_taken(rt, alloc, short, Takes::Calls(left));
-        check_taken(rt, alloc, short, Takes::CallsThenErrors(left));
+        for takes in &[Takes::Calls(left), Takes::CallsThenErrors(left)] {
+            let wanted = Filled(*takes, short.calls, short.written);
+            check(rt, alloc, short.command, text, wanted);
+        }
     }
 }
 
 #[test]
-fn a_reader_that_fails(rt: HostRuntime) {
+fn readers_and_writers_that_fail(rt: HostRuntime) {
     for short in SHORT {
         check_reader(&rt, rt.alloc(), *short);
+        check_writer(&rt, rt.alloc(), *short);
     }
 }
 
+/// Readers that give a byte at each read, and are asked as often as a reader may be, and one that fills what it is given.
 #[test]
-fn a_reader_that_is_interrupted(rt: HostRuntime) {
-    for short in SHORT {
-        let reader = InterruptedReader {
-            text: short.read.as_bytes(),
-            was_asked: false,
-        };
-        check(&rt, rt.alloc(), short.command, reader, Interrupted);
-    }
-}
-
-/// It gives a byte at each read, and is asked as often as a reader may be.
-#[test]
-fn a_reader_that_never_ends(rt: HostRuntime) {
+fn readers_that_never_end(rt: HostRuntime) {
     for short in SHORT {
         let wanted = TooLong(67_108_865, 67_108_865);
         check(&rt, rt.alloc(), short.command, Spaces, wanted);
     }
-}
-
-#[test]
-fn a_reader_that_gives_too_much(rt: HostRuntime) {
     let reader = io::repeat(b' ');
-    check(&rt, rt.alloc(), Judge(MOST), reader, TooLong(0, 999));
-}
-
-#[test]
-fn a_writer_that_fails(rt: HostRuntime) {
-    for short in SHORT {
-        check_writer(&rt, rt.alloc(), *short);
-    }
+    check(&rt, rt.alloc(), Judge, reader, TooLong(0, 999));
 }

@@ -1,39 +1,22 @@
 //! Which words of a command line give which job.
 
-use command_streams::CliFault;
-use command_words::{Job, read_words};
-use std::alloc::{AllocError, Global};
+use command_words::read_words;
+use std::alloc::Global;
 use std::process::Abort;
 use std::test::Fail;
 
-/// Whether it is the job that is printed so.
-fn is_job(alloc: Global, found: &Result<Job, CliFault>, wanted: &str) -> bool {
-    match found {
-        Ok(job) => match format!(in alloc; "{job:?}") {
-            Ok(told) => told.as_str() == wanted,
-            Err(_) => false,
-        },
-        Err(_) => false,
-    }
-}
-
-/// What these words, between spaces, ask for.
-fn read(alloc: Global, line: &str) -> Result<Result<Job, CliFault>, AllocError> {
+/// Whether the words of this line, between spaces, ask for the job that is printed so.
+fn ask(alloc: Global, line: &str, wanted: &str) -> Result<bool, Fail> {
     let words: Vec<&str> = line.split_whitespace().collect(alloc)?;
-    Ok(read_words(alloc, words.as_slice()))
+    let job = read_words(alloc, words.as_slice())?;
+    let told = format!(in alloc; "{job:?}")?;
+    Ok(told.as_str() == wanted)
 }
 
-/// They ask for the job that is printed so.
-fn check(rt: &impl Abort, alloc: Global, line: &str, job: &str) -> Result<(), Fail> {
-    let found = read(alloc, line)?;
-    assert!(rt; is_job(alloc, &found, job), "{line}");
-    Ok(())
-}
-
-/// The words of each line ask for the job that is printed so.
+/// So do those of each line.
 fn check_jobs(rt: &impl Abort, alloc: Global, lines: &[(&str, &str)]) -> Result<(), Fail> {
     for (line, job) in lines {
-        check(rt, alloc, line, job)?;
+        assert!(rt; ask(alloc, line, job)?, "{line}");
     }
     Ok(())
 }
@@ -80,11 +63,6 @@ const JUDGED: &[(&str, &str)] = &[
         "Record { file: \"f\", workers: 2, limit: 1000000, trace: \"a_name_that_is_longer_than_the_names_of_a_text_may_be_and_than_64_bytes_as_well.trace\" }",
     ),
 ];
-
-#[test]
-fn words_for_verdicts_elisions_and_runs(rt: HostRuntime) -> Result<(), Fail> {
-    check_jobs(&rt, rt.alloc(), JUDGED)
-}
 
 /// Words that ask for an explanation.
 const EXPLAINED: &[(&str, &str)] = &[
@@ -150,11 +128,6 @@ const EXPLAINED: &[(&str, &str)] = &[
     ),
 ];
 
-#[test]
-fn words_for_explanations(rt: HostRuntime) -> Result<(), Fail> {
-    check_jobs(&rt, rt.alloc(), EXPLAINED)
-}
-
 /// Words that ask for a replay or a drawing, and names.
 const NAMED: &[(&str, &str)] = &[
     ("replay f g", "Replay { file: \"f\", trace: \"g\" }"),
@@ -191,6 +164,8 @@ const NAMED: &[(&str, &str)] = &[
 ];
 
 #[test]
-fn words_for_replays_and_drawings_and_names_of_streams(rt: HostRuntime) -> Result<(), Fail> {
+fn words_that_ask_for_jobs(rt: HostRuntime) -> Result<(), Fail> {
+    check_jobs(&rt, rt.alloc(), JUDGED)?;
+    check_jobs(&rt, rt.alloc(), EXPLAINED)?;
     check_jobs(&rt, rt.alloc(), NAMED)
 }

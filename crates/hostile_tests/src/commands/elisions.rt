@@ -2,7 +2,7 @@
 
 use super::Command::Elide;
 use super::Wanted::{Filled, Text};
-use super::{MOST, Takes, check, push_number};
+use super::{Takes, check, push_number};
 use std::alloc::{AllocError, Global};
 use std::process::Abort;
 use std::sync::Wait;
@@ -40,10 +40,10 @@ const WRITERS: &[Takes] = &[
 /// Its elision is these lines, which are written to a writer just where it goes along with enough calls.
 fn check_wide<R: Abort + Threads + Wait + Sync>(rt: &R, alloc: Global, lines: &str) {
     let program = WIDE.as_bytes();
-    check(rt, alloc, Elide(MOST), program, Text(0, lines));
+    check(rt, alloc, Elide, program, Text(0, lines));
     for takes in WRITERS {
         let wanted = Filled(*takes, 208_906, lines);
-        check(rt, alloc, Elide(MOST), program, wanted);
+        check(rt, alloc, Elide, program, wanted);
     }
 }
 

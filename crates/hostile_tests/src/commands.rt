@@ -1,7 +1,6 @@
 //! The commands, from texts that are read to texts that are written.
 
-ghost use Rattle.std.specs.Prelude.{◌≡◌, ◌<◌, ◌≤◌, false};
-ghost use Rattle.model_histories.specs.Shapes.{most_entries};
+ghost use Rattle.std.specs.Prelude.{◌≡◌, false};
 ghost use Rattle.command_streams.specs.Watched.{has_failed};
 
 mod elisions;
@@ -25,23 +24,24 @@ use tool_commands::{
     elide_text, explain_text, judge_stream, replay_text, run_text, write_run_trace,
 };
 
+/// The limit of each command.
 const MOST: u32 = 1_000_000;
 
 /// A command over a text that is read. It may want another text.
 #[derive(Clone, Copy)]
 enum Command<'a> {
-    /// Judges the trace that is read, with this limit.
-    Judge(u32),
-    /// Writes the elision of the program that is read, with this limit.
-    Elide(u32),
-    /// Runs the program that is read by so many workers, with this limit.
-    Run(usize, u32),
-    /// The same, with the trace of the run in place of its report.
-    Trace(usize, u32),
-    /// The same, told to a person.
-    Explain(usize, u32),
-    /// The same of a run in the serial order, with this limit, told to a program as JSON.
-    ExplainAsJson(u32),
+    /// Judges the trace that is read.
+    Judge,
+    /// Writes the elision of the program that is read.
+    Elide,
+    /// Runs the program that is read by so many workers.
+    Run(usize),
+    /// The same by two workers, with the trace of the run in place of its report.
+    Trace,
+    /// Tells a person of the trace that is read, or of a run of the program that is read by two workers.
+    Explain,
+    /// The same of a run in the serial order, told to a program as JSON.
+    ExplainAsJson,
     /// Replays this trace as a run of the program that is read.
     Replay(&'a str),
     /// Replays the trace that is read as a run of this program.
@@ -52,119 +52,51 @@ enum Command<'a> {
 
 use Command::{Draw, Elide, Explain, ExplainAsJson, Follow, Judge, Replay, Run, Trace};
 
-/// A limit that commands take.
-fn check_limit(rt: &impl Abort, limit: u32) -> u32
-    ensures { result ≤ most_entries }
-{
-    assert!(rt; limit <= MOST);
-    limit
-}
-
-/// A number of workers that commands take.
-fn check_workers(rt: &impl Abort, workers: usize) -> usize
-    ensures { (0 < result) × (result ≤ 64) }
-{
-    assert!(rt; 0 < workers);
-    assert!(rt; workers <= 64);
-    workers
-}
-
-/// Replays this trace, which stands in memory and so can be read, as a run of the program that is read.
-fn replay_trace<P: Read>(
+/// Replays the text that is read, a trace or a program, with the other one, which stands in memory and so can be read.
+fn replay<P: Read>(
     rt: &impl Abort,
     alloc: Global,
-    program: &mut Watched<P>,
-    trace: &str,
+    input: &mut Watched<P>,
+    other: &str,
+    is_trace: bool,
     output: &mut Watched<Filling>,
 ) -> Result<u8, CliFault>
-    requires reader { has_failed program.old ≡ false }
+    requires reader { has_failed input.old ≡ false }
     requires writer { has_failed output.old ≡ false }
 {
-    let mut other = Watched::new(trace.as_bytes());
-    let answer = replay_text(alloc, program, &mut other, output);
+    let mut other = Watched::new(other.as_bytes());
+    let answer = if is_trace {
+        replay_text(alloc, &mut other, input, output)
+    } else {
+        replay_text(alloc, input, &mut other, output)
+    };
     assert!(rt; !other.failed());
     answer
 }
 
-/// Replays the trace that is read as a run of this program, which stands in memory.
-fn follow_trace<P: Read>(
-    rt: &impl Abort,
-    alloc: Global,
-    trace: &mut Watched<P>,
-    program: &str,
-    output: &mut Watched<Filling>,
-) -> Result<u8, CliFault>
-    requires reader { has_failed trace.old ≡ false }
-    requires writer { has_failed output.old ≡ false }
-{
-    let mut other = Watched::new(program.as_bytes());
-    let answer = replay_text(alloc, &mut other, trace, output);
-    assert!(rt; !other.failed());
-    answer
-}
-
-/// A run that is told, and how.
-#[derive(Clone, Copy)]
-struct Telling {
-    workers: usize,
-    is_serial: bool,
-    rendering: Rendering,
-    limit: u32,
-}
-
-impl Telling {
-    /// A run by so many workers as text.
-    fn text(workers: usize, limit: u32) -> Telling {
-        Telling {
-            workers,
-            is_serial: false,
-            rendering: Rendering::Text,
-            limit,
-        }
-    }
-
-    /// A run in the serial order as JSON.
-    fn json(limit: u32) -> Telling {
-        Telling {
-            workers: 1,
-            is_serial: true,
-            rendering: Rendering::Record(RecordForm::Json),
-            limit,
-        }
-    }
-}
-
-/// Tells of a run of the program that is read, on paper.
-fn explain<P: Read, R: Abort + Threads + Wait + Sync>(
+/// Tells on paper of the text that is read.
+fn explain<P: Read, R: Threads + Wait + Sync>(
     rt: &R,
     alloc: Global,
-    program: &mut Watched<P>,
-    telling: Telling,
+    input: &mut Watched<P>,
+    is_json: bool,
     output: &mut Watched<Filling>,
 ) -> Result<u8, CliFault>
-    requires reader { has_failed program.old ≡ false }
+    requires reader { has_failed input.old ≡ false }
     requires writer { has_failed output.old ≡ false }
 {
-    let (workers, limit) = (
-        check_workers(rt, telling.workers),
-        check_limit(rt, telling.limit),
-    );
     let manner = Manner {
         is_painted: false,
-        rendering: telling.rendering,
+        rendering: if is_json {
+            Rendering::Record(RecordForm::Json)
+        } else {
+            Rendering::Text
+        },
         extent: Extent::First,
         file: "p.cilk",
     };
     explain_text(
-        rt,
-        alloc,
-        &manner,
-        program,
-        workers,
-        telling.is_serial,
-        &OpenDoor,
-        output,
-        limit,
+        rt, alloc, &manner, input, 2, is_json, &OpenDoor, output, MOST,
     )
 }
 
@@ -180,32 +112,17 @@ fn answer_command<P: Read, R: Abort + Threads + Wait + Sync>(
     requires writer { has_failed output.old ≡ false }
 {
     match command {
-        Judge(limit) => {
-            let limit = check_limit(rt, limit);
-            judge_stream(alloc, input, output, limit)
+        Judge => judge_stream(alloc, input, output, MOST),
+        Elide => elide_text(alloc, input, output, MOST),
+        Run(workers) => {
+            assert!(rt; 0 < workers && workers <= 64);
+            run_text(rt, alloc, alloc, input, workers, &OpenDoor, output, MOST)
         }
-        Elide(limit) => {
-            let limit = check_limit(rt, limit);
-            elide_text(alloc, input, output, limit)
-        }
-        Run(workers, limit) => {
-            let (workers, limit) = (check_workers(rt, workers), check_limit(rt, limit));
-            run_text(rt, alloc, alloc, input, workers, &OpenDoor, output, limit)
-        }
-        Trace(workers, limit) => {
-            let (workers, limit) = (check_workers(rt, workers), check_limit(rt, limit));
-            write_run_trace(rt, alloc, input, workers, &OpenDoor, output, limit)
-        }
-        Explain(workers, limit) => {
-            let telling = Telling::text(workers, limit);
-            explain(rt, alloc, input, telling, output)
-        }
-        ExplainAsJson(limit) => {
-            let telling = Telling::json(limit);
-            explain(rt, alloc, input, telling, output)
-        }
-        Replay(trace) => replay_trace(rt, alloc, input, trace, output),
-        Follow(program) => follow_trace(rt, alloc, input, program, output),
+        Trace => write_run_trace(rt, alloc, input, 2, &OpenDoor, output, MOST),
+        Explain => explain(rt, alloc, input, false, output),
+        ExplainAsJson => explain(rt, alloc, input, true, output),
+        Replay(trace) => replay(rt, alloc, input, trace, false, output),
+        Follow(program) => replay(rt, alloc, input, program, true, output),
         Draw => draw_text(alloc, Form::Dot, input, output),
     }
 }
@@ -393,20 +310,6 @@ fn is_met(alloc: Global, outcome: &Outcome, wanted: Wanted<'_>) -> bool {
     }
 }
 
-/// What comes of the command over this reader and writer.
-fn perform_command<P: Read + Drop, R: Abort + Threads + Wait + Sync>(
-    rt: &R,
-    alloc: Global,
-    command: Command<'_>,
-    reader: P,
-    writer: Filling,
-) -> Outcome {
-    let mut input = Watched::new(reader);
-    let mut output = Watched::new(writer);
-    let answer = answer_command(rt, alloc, command, &mut input, &mut output);
-    outcome_of(answer, &input, output)
-}
-
 /// The outcome is what is wanted.
 fn meets(rt: &impl Abort, alloc: Global, outcome: &Outcome, wanted: Wanted<'_>) {
     let written = outcome.output.held.as_slice();
@@ -421,8 +324,10 @@ fn check<P: Read + Drop, R: Abort + Threads + Wait + Sync>(
     reader: P,
     wanted: Wanted<'_>,
 ) {
-    let outcome = perform_command(rt, alloc, command, reader, wanted.writer(alloc));
-    meets(rt, alloc, &outcome, wanted);
+    let mut input = Watched::new(reader);
+    let mut output = Watched::new(wanted.writer(alloc));
+    let answer = answer_command(rt, alloc, command, &mut input, &mut output);
+    meets(rt, alloc, &outcome_of(answer, &input, output), wanted);
 }
 
 /// Appends a number between two texts.
