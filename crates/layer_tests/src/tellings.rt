@@ -1,9 +1,11 @@
-//! Tests of what is told of a run for a person: chains of spawns, pairs of lines, quotes and explanations. tests/draw.t has drawings.
+//! Tests of what is told and drawn of a run for a person: chains of spawns, pairs of lines, quotes, explanations and drawings.
 
 #[cfg(test)]
 mod asked;
 #[cfg(test)]
 mod chains;
+#[cfg(test)]
+mod drawings;
 #[cfg(test)]
 mod explanations;
 #[cfg(test)]
