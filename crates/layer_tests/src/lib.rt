@@ -1,5 +1,5 @@
 //! The tests of the layers below the commands, a module for each, and nothing else: of texts; of orders, strands, branches and views; of the
-//! shadow history and the gate; of runs of programs; and of what is told of a run for a person.
+//! shadow history and the gate; of runs of programs; and of what is told and drawn of a run for a person.
 //!
 //! They make public calls alone, so they stand above the crates that they test: each layer is proved once, and not a second time with its
 //! tests. They are one crate, since the libraries are read anew for the proof of each crate, for that of its tests and for its edits.
