@@ -1,5 +1,5 @@
 -- A command that is built word by word, and command by command.
-use Rattle.std.proofs.Common.{◌≡◌, ◌<◌, ◌≤◌, ◌∙◌, ◌||◌, ◌+◌, ◌++◌, ℕ, Bool, List, [], ◌∷◌, ap, ap₂, append-nil, append_assoc, get_or, length, map, subst, sym, take}
+use Rattle.std.proofs.Common.{◌<◌, ◌≤◌, ◌∙◌, ◌||◌, ◌+◌, ◌++◌, ℕ, Bool, List, [], ◌∷◌, ap, ap₂, append-nil, append_assoc, get_or, length, map, subst, sym, take}
 use Rattle.std.proofs.lemmas.List.{map-append, take_all, take_more}
 use Rattle.clap.specs.Words.{App, Rule, Shape, Text, AddsArg, AddsInTurn, AddsSubcommand, with_rule, with_subcommand}
 use Rattle.clap.specs.declared.builder.arg.Arg.{Arg}
