@@ -1,13 +1,13 @@
 //! The names on a line.
 
 ghost use Rattle.std.specs.Prelude.{◌≡◌, ◌<◌, ◌++◌, ◌∷◌, [], ℕ, List, IfOk, OnOk, map, length, position, cond};
-ghost use Rattle.std.specs.List.{before_first};
-ghost use Rattle.text_words.specs.Text.{is_hash, is_name_byte};
+ghost use Rattle.text_words.specs.Text.{is_name_byte};
 ghost use Rattle.fault_lists.specs.LineNames.{is_between, begins_name, name_pieces, names_on, first_name, opening_on};
 ghost use denote.Ref.{Bor};
 
 use crate::opening::{Opening, opening_of};
 use std::alloc::{AllocError, Global};
+use text_words::without_comment;
 
 fn is_name_byte(byte: u8) -> bool
     ensures { result ≡ is_name_byte byte }
@@ -22,18 +22,6 @@ fn begins_name(piece: &[u8]) -> bool
         [first, ..] => first.is_ascii_lowercase(),
         [] => false,
     }
-}
-
-/// A line without its comment.
-fn before_comment(line: &[u8]) -> &[u8]
-    ensures { result.now ≡ before_first is_hash line.now }
-{
-    for (at, byte) in line.iter().enumerate() {
-        if *byte == b'#' {
-            return &line[..at];
-        }
-    }
-    line
 }
 
 /// Whether a byte stands between names.
@@ -78,7 +66,7 @@ pub(crate) fn names_on(alloc: Global, line: &[u8]) -> Result<Vec<&[u8]>, AllocEr
     ensures { IfOk result (λ names. map (λ (name : Bor (List ℕ)). name.now) names.items ≡ names_on line.now) }
 {
     let mut names = Vec::new(alloc);
-    let mut rest = before_comment(line);
+    let mut rest = without_comment(line);
     while !rest.is_empty() {
         let (piece, behind) = split_piece(rest);
         push_name(&mut names, piece)?;

@@ -1,11 +1,10 @@
 -- Words that make a function known.
-use Rattle.std.proofs.Common.{◌≡◌, ℕ, zero, suc, ◌+◌, ◌<◌, ◌≤◌, ◌∷◌, [], List, Bool, true, false, not, cond, length, take, arith, refl, sym, ap, ◌∙◌, subst}
-use Rattle.std.specs.Prelude.{◌↔◌, ◌&&◌, IsTrue, nat_lt, Option, Some, None, position}
+use Rattle.std.proofs.Common.{◌≡◌, ℕ, zero, suc, ◌+◌, ◌<◌, ◌∷◌, [], List, Bool, true, false, not, cond, length, take, arith, refl, sym, ap, ◌∙◌, subst}
+use Rattle.std.specs.Prelude.{◌↔◌, ◌&&◌, IsTrue, nat_lt, Option, None, position}
 use Rattle.std.specs.List.{All, list_all, position_or_len, before_first}
 use Rattle.std.specs.Char.{is_ascii_lowercase}
 use Rattle.std.proofs.lemmas.Bool.Decides.{nat_tests}
 use Rattle.std.proofs.lemmas.List.Sums.{AllPass-from_list_all, list_all-from_AllPass}
-use Rattle.std.proofs.lemmas.Option.{cond_some}
 use Rattle.text_words.specs.Text.{IsName, IsTextLine, is_name_byte, is_text_byte, is_hash, words, split_words, lines}
 use Rattle.program_text.specs.Functions.{is_name_word, function_in, function_named, with_function, functions_from}
 
@@ -76,26 +75,6 @@ module _ (test : ℕ → Bool) where
   pub before_twice : (bytes : List ℕ) → before_first test (before_first test bytes) ≡ before_first test bytes
   before_twice bytes =
       ap (λ (n : ℕ). take n (take (position_or_len test bytes) bytes)) (none_before bytes) ∙ take_twice (position_or_len test bytes) bytes
-
-last_place : (bytes : List ℕ) → position_or_len is_hash bytes ≤ length bytes
-last_place [] = omega arith
-last_place (byte ∷ bytes) = by (not (is_hash byte)) (position_or_len is_hash bytes) (length bytes) (last_place bytes)
-  where
-    by : (b : Bool) (m n : ℕ) → m ≤ n → cond b (1 + m) 0 ≤ suc n
-    by true m n h = omega arith
-    by false m n h = omega arith
-
-take_all : (bytes : List ℕ) → take (length bytes) bytes ≡ bytes
-take_all [] = refl
-take_all (byte ∷ bytes) = ap (λ (t : List ℕ). byte ∷ t) (take_all bytes)
-
-pub before_found : (bytes : List ℕ) (end : ℕ) → position is_hash bytes ≡ Some end → take end bytes ≡ before_first is_hash bytes
-before_found bytes end h = ap (λ (n : ℕ). take n bytes) (sym (cond_some _ (position_or_len is_hash bytes) end h).1)
-
-pub before_missing : (bytes : List ℕ) → position is_hash bytes ≡ None → bytes ≡ before_first is_hash bytes
-before_missing bytes h =
-    let e : position_or_len is_hash bytes ≡ length bytes = grind (arith, nat_tests, last_place bytes) in
-    sym (ap (λ (n : ℕ). take n bytes) e ∙ take_all bytes)
 
 -- ---- the function that a line makes known
 

@@ -1,8 +1,7 @@
 //! A program's text, a line at a time.
 
-ghost use Rattle.std.specs.Prelude.{◌≡◌, [], None, Some, OnOk, IfOk, MatchResult, option_copied, position};
-ghost use Rattle.std.specs.List.{before_first};
-ghost use Rattle.text_words.specs.Text.{lines, is_hash};
+ghost use Rattle.std.specs.Prelude.{◌≡◌, [], None, Some, OnOk, IfOk, MatchResult, option_copied};
+ghost use Rattle.text_words.specs.Text.{lines};
 ghost use Rattle.program_text.specs.Functions.{is_name_word, function_in as named_in, function_named, with_function, functions_from, functions_of};
 ghost use Rattle.program_text.specs.Drafts.{held};
 ghost use Rattle.model_bodies.specs.Codes.{main_of as main_among};
@@ -13,24 +12,10 @@ use crate::draft::{Draft, fault};
 use crate::function::Function;
 use program_lines::FunctionNames;
 use std::alloc::{AllocError, Allocator};
-use text_words::{Cause, TextFault, Version, Words, as_text, is_name, split_line, without_return};
+use text_words::{
+    Cause, TextFault, Version, Words, as_text, is_name, split_line, without_comment, without_return,
+};
 use trace_text::read_header;
-
-fn hash_at(line: &[u8]) -> Option<usize>
-    ensures { result ≡ position is_hash line.now }
-{
-    line.iter().position(|byte| *byte == b'#')
-}
-
-/// What stands before the comment of a line.
-fn before_comment(line: &[u8]) -> &[u8]
-    ensures { result.now ≡ before_first is_hash line.now }
-{
-    match hash_at(line) {
-        Some(end) => &line[..end],
-        None => line,
-    }
-}
 
 fn is_function_name(word: &str) -> bool
     ensures { result ≡ is_name_word word.now }
@@ -58,7 +43,7 @@ fn function_in<'a>(words: &mut Words<'a>) -> Option<&'a str>
 fn function_of(line: &[u8]) -> Option<&str>
     ensures { option_copied result ≡ function_named line.now }
 {
-    match as_text(before_comment(line)) {
+    match as_text(without_comment(line)) {
         Some(text) => function_in(&mut Words::of_line(text)),
         None => None,
     }

@@ -10,7 +10,7 @@ use crate::part::Part;
 use crate::scene::{Scene, first_words, open_at};
 use crate::values::{bad_numbers, unknown_names};
 use crate::words::bad_words;
-use text_words::Cause;
+use text_words::{Cause, comment_at};
 
 /// The most lines of a text.
 const MOST_LINES: u32 = 4_000_000;
@@ -47,11 +47,6 @@ fn bad_byte(scene: &Scene<'_, '_>) -> (ByteMistake, Part) {
         },
     };
     (mistake, Part::Byte(at))
-}
-
-/// Where the comment of a line begins.
-fn comment_at(line: &[u8]) -> Option<usize> {
-    line.iter().position(|byte| *byte == b'#')
 }
 
 /// Whether a text is C or C++: such a source includes headers.

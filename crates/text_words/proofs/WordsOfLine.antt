@@ -1,7 +1,7 @@
 -- The words of a line, one at a time.
-use Rattle.std.proofs.Common.{◌≡◌, ◌≢◌, ℕ, ◌<◌, ◌≤◌, ◌∷◌, ◌++◌, [], List, length, true, false, arith, refl, ap, sym, ◌∙◌, get_or, lit<}
-use Rattle.std.specs.Prelude.{◌==◌, filter, IsTrue, Option, None, Some, MatchOption}
-use Rattle.std.specs.List.{All, AllByRecursion, AllPass, list_all, slice_split}
+use Rattle.std.proofs.Common.{◌≡◌, ◌≢◌, ℕ, ◌<◌, ◌≤◌, ◌+◌, ◌∷◌, ◌++◌, [], List, length, true, false, Bool, cond, not, suc, take, take_all, arith, refl, ap, sym, ◌∙◌, get_or, lit<}
+use Rattle.std.specs.Prelude.{◌==◌, filter, position, IsTrue, Option, None, Some, MatchOption}
+use Rattle.std.specs.List.{All, AllByRecursion, AllPass, before_first, list_all, position_or_len, slice_split}
 use Rattle.std.specs.Char.{is_ascii_whitespace}
 use Rattle.std.specs.Str.{IsUtf8, NoCharPasses, NonePass}
 use Rattle.std.specs.Str.Iter.{IsAsciiSeparator, split_ascii_whitespace_text, split_ascii_whitespace_steps}
@@ -12,10 +12,29 @@ use Rattle.std.proofs.lemmas.List.{get_or_default, append-nil}
 use Rattle.std.proofs.lemmas.List.Elements.{recursion_from_All, All-from_recursion}
 use Rattle.std.proofs.lemmas.List.Sums.{AllPass-from_list_all, list_all-from_AllPass}
 use Rattle.std.proofs.lemmas.List.Splits.{slice_split_at, slice_split_none}
+use Rattle.std.proofs.lemmas.Option.{cond_some}
 use Rattle.std.proofs.lemmas.Str.{IsUtf8-from_ascii}
 use Rattle.std.proofs.lemmas.Str.Ascii.{IsAscii-from_all}
 use Rattle.std.proofs.lemmas.Str.Pattern.{NoCharPasses-char}
-use Rattle.text_words.specs.Text.{is_text_byte, IsTextLine, is_blank, is_nonempty, split_words}
+use Rattle.text_words.specs.Text.{is_text_byte, IsTextLine, is_blank, is_hash, is_nonempty, split_words}
+
+-- ---- what stands before the comment of a line
+
+position_in_length : (bytes : List ℕ) → position_or_len is_hash bytes ≤ length bytes
+position_in_length [] = omega arith
+position_in_length (byte ∷ bytes) = by (not (is_hash byte)) (position_or_len is_hash bytes) (length bytes) (position_in_length bytes)
+  where
+    by : (b : Bool) (m n : ℕ) → m ≤ n → cond b (1 + m) 0 ≤ suc n
+    by true m n h = omega arith
+    by false m n h = omega arith
+
+pub comment_found : (line : List ℕ) (at : ℕ) → position is_hash line ≡ Some at → take at line ≡ before_first is_hash line
+comment_found line at is = ap (λ n. take n line) (sym (cond_some _ (position_or_len is_hash line) at is).1)
+
+pub no_comment : (line : List ℕ) → position is_hash line ≡ None → line ≡ before_first is_hash line
+no_comment line is =
+    let e : position_or_len is_hash line ≡ length line = grind (arith, nat_tests, position_in_length line) in
+    rw e (sym (take_all _ line (omega arith)))
 
 -- ---- a line of text is UTF-8
 

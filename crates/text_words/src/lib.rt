@@ -24,4 +24,4 @@ pub use name_index::{MOST_NAMES, NameIndex};
 pub use names::{Named, Names};
 pub use spelling::{monoid_of, monoid_word, version_word};
 pub use value::{Items, Mem, Mems, Monoids, Reducer, Reducers, Shape, TraceLine, Version};
-pub use words::{Words, as_text, split_line, without_return};
+pub use words::{Words, as_text, comment_at, split_line, without_comment, without_return};

@@ -68,6 +68,23 @@ pub fn as_text(line: &[u8]) -> Option<&str>
     Some(text)
 }
 
+/// Where the comment of a line begins.
+pub fn comment_at(line: &[u8]) -> Option<usize>
+    ensures { result ≡ position is_hash line.now }
+{
+    line.iter().position(|byte| *byte == b'#')
+}
+
+/// A line without its comment.
+pub fn without_comment(line: &[u8]) -> &[u8]
+    ensures { result.now ≡ before_first is_hash line.now }
+{
+    match comment_at(line) {
+        Some(at) => &line[..at],
+        None => line,
+    }
+}
+
 fn before_comment(line: &str) -> &str
     ensures { result.now ≡ before_first is_hash line.now }
 {

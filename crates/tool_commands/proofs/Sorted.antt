@@ -1,9 +1,6 @@
 -- What the lines of a text decide, one after another.
-use Rattle.std.proofs.Common.{◌≡◌, ℕ, false, List, [], ◌∷◌, Option, Some, None, map, refl, sym, ap, ◌∙◌, take, length, arith, ◌≤◌, ◌+◌, suc, not, cond, true, Bool, filter, take_all}
-use Rattle.std.specs.Prelude.{position}
-use Rattle.std.specs.List.{before_first, position_or_len, find, slice_split}
-use Rattle.std.proofs.lemmas.Bool.Decides.{nat_tests}
-use Rattle.std.proofs.lemmas.Option.{cond_some}
+use Rattle.std.proofs.Common.{◌≡◌, ℕ, false, List, [], ◌∷◌, Option, Some, None, map, refl, sym, ap, ◌∙◌, not, cond, filter}
+use Rattle.std.specs.List.{before_first, find, slice_split}
 use Rattle.text_words.specs.Text.{is_hash, is_blank, is_nonempty, IsTextLine}
 use Rattle.std.specs.Option.{option_map, MatchOption}
 use Rattle.std.specs.Str.Lines.{strip_carriage_return}
@@ -29,23 +26,6 @@ nothing_left rest is = rw is refl
 
 pub no_text : (text : List ℕ) → text ≡ [] → is_program_text text ≡ false
 no_text text is = rw is refl
-
--- the search for a comment ends what stands before it
-pub comment_found : (line : List ℕ) (at : ℕ) → position is_hash line ≡ Some at → take at line ≡ before_first is_hash line
-comment_found line at is = ap (λ n. take n line) (sym (cond_some _ (position_or_len is_hash line) at is).1)
-
-position_more : (b : Bool) (m n : ℕ) → m ≤ n → cond b (1 + m) 0 ≤ suc n
-position_more true m n h = omega arith
-position_more false m n h = omega arith
-
-position_le : (p : ℕ → Bool) (line : List ℕ) → position_or_len p line ≤ length line
-position_le p [] = omega arith
-position_le p (byte ∷ line) = position_more (not (p byte)) _ _ (position_le p line)
-
-pub no_comment : (line : List ℕ) → position is_hash line ≡ None → line ≡ before_first is_hash line
-no_comment line is =
-    let e : position_or_len is_hash line ≡ length line = grind (arith, nat_tests, position_le is_hash line) in
-    rw e (sym (take_all _ line (omega arith)))
 
 -- the first word, among what stands between blanks
 pub first_found : (pieces : List (List ℕ)) → find is_nonempty pieces ≡ first_among (filter is_nonempty pieces)

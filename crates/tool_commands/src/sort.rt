@@ -1,12 +1,12 @@
 //! Whether a text is to mean a program or a trace.
 
-ghost use Rattle.std.specs.Prelude.{◌≡◌, ◌==◌, Bool, Some, unwrap_or, position};
+ghost use Rattle.std.specs.Prelude.{◌≡◌, ◌==◌, Bool, Some, unwrap_or};
 ghost use Rattle.std.specs.List.{before_first, find, slice_split};
 ghost use Rattle.std.specs.Option.{option_map};
 ghost use Rattle.text_words.specs.Text.{is_blank, is_hash, is_nonempty};
 ghost use Rattle.tool_commands.specs.Sorts.{first_word, is_declaring, decided, is_program_text};
 
-use text_words::{as_text, split_line, without_return};
+use text_words::{as_text, split_line, without_comment, without_return};
 
 fn is_blank(byte: u8) -> bool
     ensures { result ≡ is_blank byte }
@@ -14,28 +14,11 @@ fn is_blank(byte: u8) -> bool
     byte == b' ' || byte == b'\t'
 }
 
-/// Where the comment of a line begins.
-fn comment_at(line: &[u8]) -> Option<usize>
-    ensures { result ≡ position is_hash line.now }
-{
-    line.iter().position(|byte| *byte == b'#')
-}
-
-/// A line without its comment.
-fn before_comment(line: &[u8]) -> &[u8]
-    ensures { result.now ≡ before_first is_hash line.now }
-{
-    match comment_at(line) {
-        Some(at) => &line[..at],
-        None => line,
-    }
-}
-
 /// The first word of a line, whatever bytes it has.
 fn first_piece(line: &[u8]) -> Option<&[u8]>
     ensures { option_map (λ piece. piece.now) result ≡ find is_nonempty (slice_split is_blank (before_first is_hash line.now)) }
 {
-    before_comment(line)
+    without_comment(line)
         .split(|byte| is_blank(*byte))
         .find(|piece| !piece.is_empty())
 }

@@ -7,6 +7,6 @@ use Rattle.tool_commands.proofs.sort.first_piece.Goals as goal
 pub returns : goal.returns
 returns c =
     find_from_yields_List is_nonempty _ _ _ c.find.ensures.ran
-    (YieldsList-from_slice_split _ is_blank _ (c.split.ensures.rest ∙ c.before_comment.ensures) c.split.ensures.done c.split.ensures.closure
+    (YieldsList-from_slice_split _ is_blank _ (c.split.ensures.rest ∙ c.without_comment.ensures) c.split.ensures.done c.split.ensures.closure
     (λ x b q k. search (rules, tests)))
     (λ x b q k. search (rules, tests))

@@ -1,6 +1,6 @@
 use Rattle.std.proofs.Common.{sym, ◌∙◌}
-use Rattle.tool_commands.proofs.Sorted.{comment_found, no_comment}
-use Rattle.tool_commands.proofs.sort.before_comment.Goals as goal
+use Rattle.text_words.proofs.WordsOfLine.{comment_found, no_comment}
+use Rattle.text_words.proofs.words.without_comment.Goals as goal
 
 pub returns-in-Some : goal.returns-in-Some
 returns-in-Some c = comment_found c.args.line.now c.in-Some.at (sym c.comment_at.ensures ∙ c.in-Some.is)
