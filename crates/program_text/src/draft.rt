@@ -172,10 +172,7 @@ impl<'a, A: Allocator + Copy> Draft<'a, A> {
         ensures { (at : ℕ) → OnOk result (self.new ≡ extended at self.old (Does statement (option_copied named.entry))) }
     {
         self.lines += 1;
-        match &mut self.current {
-            Some(function) => function.act(statement, named),
-            None => unreachable!(),
-        }
+        self.current.as_mut().unwrap().act(statement, named)
     }
 
     /// Adds an `if`.
@@ -184,10 +181,7 @@ impl<'a, A: Allocator + Copy> Draft<'a, A> {
         ensures { OnOk result (self.new ≡ extended at self.old (Decides register)) }
     {
         self.lines += 1;
-        match &mut self.current {
-            Some(function) => function.decide(at, register),
-            None => unreachable!(),
-        }
+        self.current.as_mut().unwrap().decide(at, register)
     }
 
     /// Adds an `else`.
@@ -196,10 +190,7 @@ impl<'a, A: Allocator + Copy> Draft<'a, A> {
         ensures { OnOk result (self.new ≡ extended at self.old Otherwise) }
     {
         self.lines += 1;
-        match &mut self.current {
-            Some(function) => function.divide(at),
-            None => unreachable!(),
-        }
+        self.current.as_mut().unwrap().divide(at)
     }
 
     /// Adds an `end`, of the innermost `if` or of the function.
@@ -208,10 +199,7 @@ impl<'a, A: Allocator + Copy> Draft<'a, A> {
         ensures { OnOk result (self.new ≡ extended at self.old Ends) }
     {
         self.lines += 1;
-        let was_part = match &mut self.current {
-            Some(function) => function.end(at)?,
-            None => unreachable!(),
-        };
+        let was_part = self.current.as_mut().unwrap().end(at)?;
         if !was_part && let Some(function) = self.current.take() {
             self.functions.push(function.into_function(at))?;
         }
