@@ -12,6 +12,11 @@ invariant_of-self g c =
     let stays = c.in_err-answer.ensures state _ (is-ready _ _ fits c.args.request _ _ faultless refl refl) in
     (state, fits-kept _ _ fits _ stays.1)
 
+pub returns-in_err-check : goal.returns-in_err-check
+returns-in_err-check g c state at_first =
+    let p = err_from_is_err_and c.from_residual.result c.from_residual.ensures.1 in
+    rw (p.1, p.2) (state, (refl, c.in_err-check.ensures.fault state at_first), at_first)
+
 pub returns-in_err-answer : goal.returns-in_err-answer
 returns-in_err-answer g c state at_first =
     let fits = subst (λ core. IsCoreOf core state) (sym c.self.view_is) at_first in
