@@ -1,6 +1,6 @@
 -- What is told of the entries of a run.
-use Rattle.std.specs.Prelude.{ℕ, ◌≡◌, ◌-◌, nat_lt, Bool, List, [], ◌++◌, codes, map}
-use Rattle.std.specs.Prelude.{length, take, if◌then◌else◌}
+use Rattle.std.specs.Prelude.{ℕ, ◌≡◌, Bool, List, ◌++◌, codes, map}
+use Rattle.std.specs.Prelude.{length, take}
 use Rattle.std.specs.Global.{Global}
 use Rattle.text_words.specs.Values.{Known}
 use Rattle.program_text.specs.Drafts.{Contents}
@@ -17,13 +17,13 @@ use Rattle.race_explanations.specs.declared.case.Case.{Case}
 use Rattle.race_explanations.specs.declared.extent.Extent.{Extent}
 use Rattle.race_explanations.specs.Settings.{Origin, in_program, in_trace, Setting}
 use Rattle.race_explanations.specs.Cases.{AreCases}
-use Rattle.race_explanations.specs.Extents.{most_pairs, most_shown}
+use Rattle.race_explanations.specs.Extents.{most_pairs, most_shown, more_pairs}
 use Rattle.race_explanations.specs.Groups.{pairs_words, groups_text}
 
 -- how many pairs are left out, behind the first
 abbrev pub pairs_left_out : Origin → (most count : ℕ) → List ℕ
 pairs_left_out origin most count =
-    if nat_lt most count then codes "and " ++ counted (count - most) (codes "more pair") ++ pairs_words origin ++ codes "\n" else []
+    more_pairs most count (pairs_words origin) (codes "\n")
 
 -- at how many pairs, and among how many requests
 abbrev pub among : Origin → ℕ → ℕ → List ℕ

@@ -1,5 +1,6 @@
 -- How much is told of the races of a run.
-use Rattle.std.specs.Prelude.{ℕ, ◌-◌, ◌^◌}
+use Rattle.std.specs.Prelude.{ℕ, ◌-◌, ◌^◌, nat_lt, List, [], ◌++◌, codes, if◌then◌else◌}
+use Rattle.source_quotes.specs.Quotes.{counted}
 use Rattle.race_explanations.specs.declared.extent.Extent.{Extent}
 use Rattle.race_explanations.specs.declared.extent.Extent.TheVariants.{First, All}
 
@@ -12,3 +13,8 @@ most_pairs All = 2 ^ 64 - 1
 abbrev pub most_shown : Extent → ℕ
 most_shown First = 3
 most_shown All = 2 ^ 64 - 1
+
+-- how many pairs there are more than are told: of what, and what is said of them
+abbrev pub more_pairs : (most count : ℕ) → (of_what behind : List ℕ) → List ℕ
+more_pairs most count of_what behind =
+    if nat_lt most count then codes "and " ++ counted (count - most) (codes "more pair") ++ of_what ++ behind else []

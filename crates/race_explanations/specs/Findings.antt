@@ -16,7 +16,7 @@ use Rattle.race_pairs.specs.PairKeys.{key_of}
 use Rattle.race_explanations.specs.declared.finding.Finding.{Finding}
 use Rattle.race_explanations.specs.declared.findings.Findings.{Findings}
 use Rattle.race_explanations.specs.declared.extent.Extent.{Extent}
-use Rattle.race_explanations.specs.Extents.{most_pairs, most_shown}
+use Rattle.race_explanations.specs.Extents.{most_pairs, most_shown, more_pairs}
 use Rattle.race_explanations.specs.Settings.{Origin, in_program, in_trace, Setting}
 use Rattle.race_explanations.specs.Titles.{sort_word, reason_words, listed_names, told_names}
 use Rattle.race_explanations.specs.Messages.{earlier_text, refused_text, where_text, help_of, own_help_of, message, member_message}
@@ -204,7 +204,7 @@ clean_found_text found =
 -- how many findings are not told, behind the first
 abbrev pub findings_left_out : (most count : ℕ) → List ℕ
 findings_left_out most count =
-    if nat_lt most count then codes "and " ++ counted (count - most) (codes "more pair") ++ codes " of places\n" else []
+    more_pairs most count (codes " of places") (codes "\n")
 
 -- at how many pairs of places, where all are kept
 abbrev pub at_pairs : (untold : List ℕ) → ℕ → List ℕ

@@ -1,5 +1,5 @@
 -- Findings of several traces, told together where they part at one spawn.
-use Rattle.std.specs.Prelude.{ℕ, zero, suc, ◌-◌, ◌==◌, ◌&&◌, ◌||◌, nat_lt, not, Bool, false, List, [], ◌∷◌, ◌++◌, codes, flat_map, length, take}
+use Rattle.std.specs.Prelude.{ℕ, zero, suc, ◌==◌, ◌&&◌, ◌||◌, nat_lt, not, Bool, false, List, [], ◌∷◌, ◌++◌, codes, flat_map, length, take}
 use Rattle.std.specs.Prelude.{Option, Some, None, option_and_then, slice_get, if◌then◌else◌}
 use Rattle.std.specs.Option.{option_or}
 use Rattle.std.specs.Str.{bytes_eq}
@@ -7,6 +7,7 @@ use Rattle.source_quotes.specs.Quotes.{counted}
 use Rattle.race_explanations.specs.declared.lead.Lead.{Lead}
 use Rattle.race_explanations.specs.declared.finding.Finding.{Finding}
 use Rattle.race_explanations.specs.Advice.{order_words}
+use Rattle.race_explanations.specs.Extents.{more_pairs}
 use Rattle.race_explanations.specs.FindingTexts.{finding_text, member_finding}
 
 -- ---- groups
@@ -177,7 +178,7 @@ found_member findings place = member_words (slice_get findings place)
 -- how many are not shown
 abbrev pub found_behind : (most count : ℕ) → List ℕ
 found_behind most count =
-    if nat_lt most count then codes "and " ++ counted (count - most) (codes "more pair") ++ codes " of places that part there (--all shows them)\n\n" else []
+    more_pairs most count (codes " of places") (codes " that part there (--all shows them)\n\n")
 
 abbrev pub found_many : (most : ℕ) → List Finding → (head : ℕ) → (places : List ℕ) → List ℕ
 found_many most findings head places =

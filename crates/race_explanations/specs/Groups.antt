@@ -1,11 +1,12 @@
 -- What is told of races whose strands part at spawns on one line.
-use Rattle.std.specs.Prelude.{ℕ, ◌-◌, ◌==◌, ◌&&◌, ◌||◌, nat_lt, not, Bool, true, false, List, [], ◌∷◌, ◌++◌, codes, flat_map, length, take, Option, Some, None, slice_get, if◌then◌else◌}
+use Rattle.std.specs.Prelude.{ℕ, ◌==◌, ◌&&◌, ◌||◌, nat_lt, not, Bool, true, false, List, [], ◌∷◌, ◌++◌, codes, flat_map, length, take, Option, Some, None, slice_get, if◌then◌else◌}
 use Rattle.source_quotes.specs.Quotes.{counted}
 use Rattle.race_pairs.specs.declared.groups.Group.{Group}
 use Rattle.race_explanations.specs.declared.case.Case.{Case}
 use Rattle.race_explanations.specs.declared.case.Course.{Course}
 use Rattle.race_explanations.specs.Settings.{Origin, in_program, in_trace, Setting}
 use Rattle.race_explanations.specs.Cases.{course_of}
+use Rattle.race_explanations.specs.Extents.{more_pairs}
 use Rattle.race_explanations.specs.Paths.{line_words}
 use Rattle.race_explanations.specs.Names.{are_in_one_call}
 use Rattle.race_explanations.specs.Advice.{function_word, rounds_note, sync_note}
@@ -135,9 +136,7 @@ head_text setting line count courses =
 -- how many are not shown
 abbrev pub behind_text : Origin → (most count : ℕ) → List ℕ
 behind_text origin most count =
-    if nat_lt most count
-    then codes "and " ++ counted (count - most) (codes "more pair") ++ pairs_words origin ++ codes " that part there (--all shows them)\n\n"
-    else []
+    more_pairs most count (pairs_words origin) (codes " that part there (--all shows them)\n\n")
 
 -- several races that part at spawns on one line: so many are shown at most
 abbrev pub many_text : Setting → (most : ℕ) → List Case → (line : ℕ) → (places : List ℕ) → List ℕ

@@ -5,7 +5,7 @@ ghost use Rattle.std.specs.Option.{option_map};
 ghost use Rattle.trace_notes.specs.Places.{place_parts};
 ghost use Rattle.text_buffers.specs.Builders.{Adds};
 ghost use Rattle.race_explanations.specs.Scenes.{setting_of};
-ghost use Rattle.race_explanations.specs.Advice.{between, line_on, spawn_line, function_word, parts_text, parted_text, open_text, opened_text};
+ghost use Rattle.race_explanations.specs.Advice.{between, line_on, spawn_line, function_word, parted_text, opened_text};
 ghost use Rattle.race_explanations.specs.Advice.{spawner_word, place_word, rounds_words, doing_word, doing_in, between_words, where_words};
 ghost use Rattle.race_explanations.specs.Names.{noted_function};
 ghost use Rattle.race_explanations.specs.Paths.{line_words};
@@ -88,29 +88,7 @@ pub(crate) fn push_function(text: &mut TextBuilder, scene: &Scene<'_, '_>, line:
     }
 }
 
-/// Adds that two strands part at a spawn: whither the child comes, and how its spawner goes on.
-fn push_parts(
-    text: &mut TextBuilder,
-    scene: &Scene<'_, '_>,
-    pair: &Pair,
-    refused: u32,
-    parting: &Parting,
-    onward: u32,
-)
-    ensures { Adds text.old (parts_text (setting_of scene.now) pair.now refused parting.now onward) text.new }
-{
-    push_spawn(text, scene, parting.entry);
-    let child_line = line_on(pair, refused, parting.by_child);
-    text.push_words(" here they part: what is spawned comes to ");
-    push_line(text, scene, child_line);
-    text.push_words(", while ");
-    push_function(text, scene, line_of(scene, parting.entry));
-    text.push_words(" goes on to ");
-    push_line(text, scene, onward);
-    text.push_words("\n");
-}
-
-/// Adds where two strands part.
+/// Adds where two strands part at a spawn: whither the child comes, and how its spawner goes on.
 pub(crate) fn push_parted(
     text: &mut TextBuilder,
     scene: &Scene<'_, '_>,
@@ -122,7 +100,17 @@ pub(crate) fn push_parted(
     ensures { Adds text.old (parted_text (setting_of scene.now) pair.now refused parting onward) text.new }
 {
     match parting {
-        Some(parting) => push_parts(text, scene, pair, refused, &parting, onward),
+        Some(parting) => {
+            push_spawn(text, scene, parting.entry);
+            let child_line = line_on(pair, refused, parting.by_child);
+            text.push_words(" here they part: what is spawned comes to ");
+            push_line(text, scene, child_line);
+            text.push_words(", while ");
+            push_function(text, scene, line_of(scene, parting.entry));
+            text.push_words(" goes on to ");
+            push_line(text, scene, onward);
+            text.push_words("\n");
+        }
         None => {}
     }
 }
@@ -356,27 +344,7 @@ pub(crate) fn push_put_note(text: &mut TextBuilder, scene: &Scene<'_, '_>)
     text.push_words("\n");
 }
 
-/// Adds that a spawn is outstanding at one of two reads and not at the other.
-fn push_open(
-    text: &mut TextBuilder,
-    scene: &Scene<'_, '_>,
-    pair: &Pair,
-    refused: u32,
-    spawn: &OpenSpawn,
-)
-    ensures { Adds text.old (open_text (setting_of scene.now) pair.now refused spawn.now) text.new }
-{
-    push_spawn(text, scene, spawn.entry);
-    let at = line_on(pair, refused, spawn.parallel);
-    text.push_words(" this spawn is outstanding at ");
-    push_line(text, scene, at);
-    let not_at = line_on(pair, refused, spawn.ordered);
-    text.push_words(", and not at ");
-    push_line(text, scene, not_at);
-    text.push_words("\n");
-}
-
-/// Adds which spawn makes the peers of two reads differ.
+/// Adds which spawn makes the peers of two reads differ: it is outstanding at one of them and not at the other.
 pub(crate) fn push_opened(
     text: &mut TextBuilder,
     scene: &Scene<'_, '_>,
@@ -387,7 +355,16 @@ pub(crate) fn push_opened(
     ensures { Adds text.old (opened_text (setting_of scene.now) pair.now refused spawn) text.new }
 {
     match spawn {
-        Some(spawn) => push_open(text, scene, pair, refused, &spawn),
+        Some(spawn) => {
+            push_spawn(text, scene, spawn.entry);
+            let at = line_on(pair, refused, spawn.parallel);
+            text.push_words(" this spawn is outstanding at ");
+            push_line(text, scene, at);
+            let not_at = line_on(pair, refused, spawn.ordered);
+            text.push_words(", and not at ");
+            push_line(text, scene, not_at);
+            text.push_words("\n");
+        }
         None => {}
     }
 }

@@ -11,11 +11,11 @@ ghost use Rattle.race_explanations.specs.Scenes.{setting_of};
 ghost use Rattle.trace_text.specs.Traces.{contents as trace_contents};
 ghost use Rattle.race_explanations.specs.Extents.{most_pairs, most_shown};
 ghost use Rattle.race_explanations.specs.Groups.{groups_text};
-ghost use Rattle.race_explanations.specs.Explained.{pairs_left_out, among, summary};
+ghost use Rattle.race_explanations.specs.Explained.{pairs_left_out, summary};
 ghost use Rattle.race_explanations.specs.Explained.{TellsEntries, IsExplanation, IsTraceExplanation, program_file};
 
 use crate::case::{Case, cases_of};
-use crate::extent::{Extent, most_pairs, most_shown};
+use crate::extent::{Extent, most_pairs, most_shown, push_more_pairs};
 use crate::group::{pairs_words, push_groups};
 use crate::scene::Scene;
 use crate::settings::{program_scene, trace_scene};
@@ -27,44 +27,19 @@ use text_buffers::TextBuilder;
 use trace_notes::Notes;
 use trace_text::Trace;
 
-/// Adds how many pairs are left out.
-fn push_left_out(text: &mut TextBuilder, scene: &Scene<'_, '_>, most: usize, count: usize)
-    ensures { Adds text.old (pairs_left_out (setting_of scene.now).origin most count) text.new }
-{
-    if count <= most {
-        return;
-    }
-    text.push_words("and ");
-    push_count(text, count - most, "more pair");
-    text.push_words(pairs_words(scene));
-    text.push_words("\n");
-}
-
-/// Adds at how many pairs, and among how many requests.
-fn push_among(text: &mut TextBuilder, scene: &Scene<'_, '_>, count: usize, requests: usize)
-    ensures { Adds text.old (among (setting_of scene.now).origin count requests) text.new }
-{
-    text.push_words(" at ");
-    push_count(text, count, "pair");
-    text.push_words(pairs_words(scene));
-    text.push_words(", among ");
-    push_count(text, requests, "request");
-    text.push_words("\n");
-}
-
-/// Adds how many refusals there were.
+/// Adds how many refusals there were, at how many pairs, and among how many requests.
 fn push_summary(text: &mut TextBuilder, scene: &Scene<'_, '_>)
     requires { (entries : List AnyEntry) × IsDigest entries scene.now.digest.now }
     ensures { (entries : List AnyEntry) → IsDigest entries scene.now.digest.now →
         Adds text.old (summary (setting_of scene.now).origin entries (known_count scene.now.digest.now.races.known)) text.new }
 {
     push_count(text, scene.digest.refusals, "refusal");
-    push_among(
-        text,
-        scene,
-        scene.digest.pair_count(),
-        scene.digest.lines.len(),
-    );
+    text.push_words(" at ");
+    push_count(text, scene.digest.pair_count(), "pair");
+    text.push_words(pairs_words(scene));
+    text.push_words(", among ");
+    push_count(text, scene.digest.lines.len(), "request");
+    text.push_words("\n");
 }
 
 /// Tells of the entries of a scene, of these races in these groups.
@@ -84,11 +59,12 @@ fn tell_entries(
     let mut text = TextBuilder::new(alloc);
     let shown = most_shown(extent);
     push_groups(alloc, &mut text, scene, cases, groups, shown);
-    push_left_out(
+    push_more_pairs(
         &mut text,
-        scene,
         most_pairs(extent),
         scene.digest.pair_count(),
+        pairs_words(scene),
+        "\n",
     );
     push_summary(&mut text, scene);
     text.end()

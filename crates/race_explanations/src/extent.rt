@@ -1,9 +1,12 @@
 //! How much is told of the races of a run.
 
 ghost use Rattle.std.specs.Prelude.{◌≡◌};
-ghost use Rattle.race_explanations.specs.Extents.{most_pairs, most_shown};
+ghost use Rattle.text_buffers.specs.Builders.{Adds};
+ghost use Rattle.race_explanations.specs.Extents.{most_pairs, most_shown, more_pairs};
 
 use race_pairs::PAIRS;
+use source_quotes::push_count;
+use text_buffers::TextBuilder;
 
 /// How many of the pairs that part at one spawn are shown.
 const SHOWN: usize = 3;
@@ -35,4 +38,23 @@ pub(crate) fn most_shown(extent: Extent) -> usize
         Extent::First => SHOWN,
         Extent::All => usize::MAX,
     }
+}
+
+/// Adds how many pairs there are more than are told: of what, and what is said of them.
+pub(crate) fn push_more_pairs(
+    text: &mut TextBuilder,
+    most: usize,
+    count: usize,
+    of_what: &str,
+    behind: &str,
+)
+    ensures { Adds text.old (more_pairs most count of_what.now behind.now) text.new }
+{
+    if count <= most {
+        return;
+    }
+    text.push_words("and ");
+    push_count(text, count - most, "more pair");
+    text.push_words(of_what);
+    text.push_words(behind);
 }

@@ -7,10 +7,10 @@ ghost use Rattle.trace_text.specs.Traces.{contents as trace_contents};
 ghost use Rattle.text_buffers.specs.Builders.{Adds};
 ghost use Rattle.race_explanations.specs.Explained.{trace_setting};
 ghost use Rattle.race_explanations.specs.Extents.{most_pairs};
-ghost use Rattle.race_explanations.specs.Findings.{found_of, nothing_found, untold_in, AddsTrace, findings_left_out};
+ghost use Rattle.race_explanations.specs.Findings.{found_of, nothing_found, untold_in, AddsTrace};
 ghost use Rattle.race_explanations.specs.Findings.{requests_text, at_pairs, found_summary, clean_found_text, races_found_text, found_text};
 
-use crate::extent::{Extent, most_pairs, most_shown};
+use crate::extent::{Extent, most_pairs, most_shown, push_more_pairs};
 use crate::finding::add_pairs;
 use crate::found_told::tell_groups;
 use crate::merge::FindingList;
@@ -67,18 +67,6 @@ fn push_untold(
     text.push_words("\n");
     let line = text.end()?;
     untold.extend_from_slice(line.as_slice())
-}
-
-/// Tells how many pairs are kept, and not told.
-fn tell_left_out(text: &mut TextBuilder, most: usize, count: usize)
-    ensures { Adds text.old (findings_left_out most count) text.new }
-{
-    if count <= most {
-        return;
-    }
-    text.push_words("and ");
-    push_count(text, count - most, "more pair");
-    text.push_words(" of places\n");
 }
 
 /// Tells at how many pairs, where all are kept.
@@ -179,7 +167,7 @@ impl Findings {
         let most = most_pairs(extent);
         let (first, _) = self.list.as_slice().split_at(self.list.len().min(most));
         tell_groups(alloc, text, first, most_shown(extent));
-        tell_left_out(text, most, self.list.len());
+        push_more_pairs(text, most, self.list.len(), " of places", "\n");
         text.push_bytes(self.untold.as_slice());
         self.tell_summary(text);
     }

@@ -7,8 +7,8 @@ ghost use Rattle.model_histories.specs.declared.answer.Entry.{Entry};
 ghost use Rattle.race_explanations.specs.Settings.{Setting};
 ghost use Rattle.race_explanations.specs.FoundGroups.{lead_at, groups_of};
 ghost use Rattle.race_explanations.specs.GroupNumbers.{with_member, with_place, number_at, AreNumbersOf};
-ghost use Rattle.race_explanations.specs.FoundGroups.{line_of_lead, before_place, nearer_lead, nearer_place, first_place, is_behind, is_ordered_behind, is_ordered_place};
-ghost use Rattle.race_explanations.specs.FoundGroups.{leaves_open_place, is_round_lead, round_at, round_place, is_within_lead, is_sure_first, are_sure};
+ghost use Rattle.race_explanations.specs.FoundGroups.{before_place, nearer_place, first_place, is_behind, is_ordered_place};
+ghost use Rattle.race_explanations.specs.FoundGroups.{leaves_open_place, round_at, round_place, is_sure_first, are_sure};
 ghost use Rattle.race_explanations.specs.FoundSyncs.{AreFoundIn, OneSyncOrdersFound};
 
 use crate::finding::Finding;
@@ -16,23 +16,18 @@ use crate::lead::Lead;
 use std::alloc::{AllocError, Global};
 use std::collections::BTreeMap;
 
-/// The spawn at which a finding parts.
-fn lead_in(finding: &Finding) -> Option<&Lead>
-    ensures { option_map (λ lead. lead.now) result ≡ finding.now.lead }
-{
-    match &finding.lead {
-        Some(lead) => Some(lead),
-        None => None,
-    }
-}
-
 /// The spawn at which the finding at a place parts.
 pub(crate) fn lead_at(findings: &[Finding], place: usize) -> Option<&Lead>
     ensures { option_map (λ lead. lead.now) result ≡ lead_at findings.now place }
 {
     match findings.get(place) {
-        Some(finding) => lead_in(finding),
-        None => None,
+        Some(
+            Finding {
+                lead: Some(lead),
+                ..
+            },
+        ) => Some(lead),
+        _ => None,
     }
 }
 
@@ -100,58 +95,29 @@ pub fn group_findings(alloc: Global, findings: &[Finding]) -> Result<Vec<Vec<usi
     Ok(groups)
 }
 
-/// The line to which the spawner goes on.
-fn line_of_lead(lead: Option<&Lead>) -> u32
-    ensures { result ≡ line_of_lead (option_map (λ lead. lead.now) lead.entry) }
-{
-    match lead {
-        Some(lead) => lead.course.line,
-        None => 0,
-    }
-}
-
 /// The one of the two whose spawner goes on to the lesser line, and the first where these are one.
 fn before_place(findings: &[Finding], best: Option<usize>, place: usize, line: u32) -> usize
     ensures { result ≡ before_place findings.now best place line }
 {
-    match best {
-        Some(best) => {
-            if line < line_of_lead(lead_at(findings, best)) {
-                place
-            } else {
-                best
-            }
-        }
-        None => place,
+    let Some(best) = best else {
+        return place;
+    };
+    match lead_at(findings, best) {
+        Some(lead) if line < lead.course.line => place,
+        _ => best,
     }
 }
 
-/// The same of such whose spawner goes on to another line than that of the spawn.
-fn nearer_lead(
-    findings: &[Finding],
-    best: Option<usize>,
-    place: usize,
-    lead: Option<&Lead>,
-) -> Option<usize>
-    ensures { result ≡ nearer_lead findings.now best place (option_map (λ lead. lead.now) lead.entry) }
-{
-    match lead {
-        Some(lead) => {
-            if lead.course.is_round {
-                best
-            } else {
-                Some(before_place(findings, best, place, lead.course.line))
-            }
-        }
-        None => best,
-    }
-}
-
-/// The same of the finding at a place.
+/// The same of the finding at a place, where its spawner goes on to another line than that of the spawn.
 fn nearer_place(findings: &[Finding], best: Option<usize>, place: usize) -> Option<usize>
     ensures { result ≡ nearer_place findings.now best place }
 {
-    nearer_lead(findings, best, place, lead_at(findings, place))
+    match lead_at(findings, place) {
+        Some(lead) if !lead.course.is_round => {
+            Some(before_place(findings, best, place, lead.course.line))
+        }
+        _ => best,
+    }
 }
 
 /// The place of the first finding whose spawner goes on to the least line, which is another than that of the spawn.
@@ -176,22 +142,15 @@ fn is_behind(first: &Lead, other: &Lead) -> bool
 }
 
 /// Whether a sync before the place of the first one stands before where the spawner of the other goes on.
-fn is_ordered_behind(first: Option<&Lead>, other: Option<&Lead>) -> bool
-    ensures { result ≡ is_ordered_behind (option_map (λ lead. lead.now) first.entry) (option_map (λ lead. lead.now) other.entry) }
+fn is_ordered_place(findings: &[Finding], first: usize, other: usize) -> bool
+    ensures { result ≡ is_ordered_place findings.now first other }
 {
-    match (first, other) {
+    match (lead_at(findings, first), lead_at(findings, other)) {
         (Some(first), Some(other)) => {
             other.onward.as_slice() == first.onward.as_slice() || is_behind(first, other)
         }
         _ => false,
     }
-}
-
-/// The same of the findings at two places.
-fn is_ordered_place(findings: &[Finding], first: usize, other: usize) -> bool
-    ensures { result ≡ is_ordered_place findings.now first other }
-{
-    is_ordered_behind(lead_at(findings, first), lead_at(findings, other))
 }
 
 /// Whether some are not ordered by a sync before the place of the first one.
@@ -205,24 +164,13 @@ fn leaves_open(findings: &[Finding], first: usize, places: &[usize]) -> bool
     found
 }
 
-/// Whether the spawner goes on to the line of the spawn.
-fn is_round_lead(lead: Option<&Lead>) -> bool
-    ensures { result ≡ is_round_lead (option_map (λ lead. lead.now) lead.entry) }
-{
-    match lead {
-        Some(lead) => lead.course.is_round,
-        None => false,
-    }
-}
-
 /// The place, where the spawner of its finding goes on to the line of the spawn.
 fn round_at(findings: &[Finding], place: usize) -> Option<usize>
     ensures { result ≡ round_at findings.now place }
 {
-    if is_round_lead(lead_at(findings, place)) {
-        Some(place)
-    } else {
-        None
+    match lead_at(findings, place) {
+        Some(lead) if lead.course.is_round => Some(place),
+        _ => None,
     }
 }
 
@@ -237,24 +185,15 @@ pub(crate) fn round_place(findings: &[Finding], places: &[usize]) -> Option<usiz
     found
 }
 
-/// Whether the spawner is known to go on to a line of the call that spawns.
-fn is_within_lead(lead: Option<&Lead>) -> bool
-    ensures { result ≡ is_within_lead (option_map (λ lead. lead.now) lead.entry) }
-{
-    match lead {
-        Some(lead) => lead.is_within,
-        None => false,
-    }
-}
-
 /// Whether the sync that is told of the first one is known to stand in the call that spawns, and orders all at these places.
 pub(crate) fn is_sure_first(findings: &[Finding], first: Option<usize>, places: &[usize]) -> bool
     ensures { result ≡ is_sure_first findings.now first places.now }
 {
-    match first {
-        Some(first) => {
-            is_within_lead(lead_at(findings, first)) && !leaves_open(findings, first, places)
-        }
+    let Some(first) = first else {
+        return false;
+    };
+    match lead_at(findings, first) {
+        Some(lead) => lead.is_within && !leaves_open(findings, first, places),
         None => false,
     }
 }

@@ -1,14 +1,15 @@
 //! What is told of groups of findings of several traces.
 
-ghost use Rattle.std.specs.Prelude.{ℕ, Some, flat_map};
+ghost use Rattle.std.specs.Prelude.{ℕ, flat_map};
 ghost use Rattle.std.specs.Global.{Vec as AnyVec};
 ghost use Rattle.std.specs.Option.{option_map};
 ghost use Rattle.text_buffers.specs.Builders.{Adds};
-ghost use Rattle.race_explanations.specs.FindingTexts.{finding_with, finding_text, member_finding};
-ghost use Rattle.race_explanations.specs.FoundGroups.{spawn_words, beside_words, found_beside, found_first, rounds_words, found_rounds, sync_words};
-ghost use Rattle.race_explanations.specs.FoundGroups.{found_sync, found_head, found_member, found_behind, found_many, found_alone, found_group, found_groups_text};
+ghost use Rattle.race_explanations.specs.FindingTexts.{finding_with, finding_text};
+ghost use Rattle.race_explanations.specs.FoundGroups.{spawn_words, beside_words, found_beside, found_first, found_rounds};
+ghost use Rattle.race_explanations.specs.FoundGroups.{found_sync, found_head, found_member, found_many, found_alone, found_group, found_groups_text};
 
 use crate::advice::order_words;
+use crate::extent::push_more_pairs;
 use crate::finding::Finding;
 use crate::found_groups::{
     are_sure, first_place, group_findings, is_sure_first, lead_at, round_place,
@@ -43,13 +44,6 @@ fn tell_finding(text: &mut TextBuilder, finding: &Finding, is_sure: bool)
     } else {
         tell_with(text, finding, finding.open_help.as_slice());
     }
-}
-
-/// Tells of a finding as of one of several that part at one spawn.
-fn tell_member(text: &mut TextBuilder, finding: &Finding)
-    ensures { Adds text.old (member_finding finding.now) text.new }
-{
-    tell_with(text, finding, finding.own_help.as_slice());
 }
 
 /// Tells the place of a spawn.
@@ -99,42 +93,15 @@ fn tell_first(
     tell_beside(text, findings, first);
 }
 
-/// Tells what would order rounds.
-fn tell_rounds_lead(text: &mut TextBuilder, lead: Option<&Lead>)
-    ensures { Adds text.old (rounds_words (option_map (λ lead. lead.now) lead.entry)) text.new }
-{
-    match lead {
-        Some(lead) => text.push_bytes(lead.rounds.as_slice()),
-        None => {}
-    }
-}
-
 /// Tells what would order those whose spawner goes on to the line of the spawn.
 fn tell_rounds(text: &mut TextBuilder, findings: &[Finding], place: Option<usize>)
     ensures { Adds text.old (found_rounds findings.now place) text.new }
 {
-    match place {
-        Some(place) => tell_rounds_lead(text, lead_at(findings, place)),
-        None => {}
-    }
-}
-
-/// Tells a sync, and what it does.
-fn tell_sync_of(text: &mut TextBuilder, lead: &Lead, is_sure: bool)
-    ensures { Adds text.old (sync_words (Some lead.now) is_sure) text.new }
-{
-    text.push_bytes(lead.sync.as_slice());
-    text.push_words(order_words(is_sure));
-    text.push_words("\n");
-}
-
-/// Tells a sync, where there is one, and what it does.
-fn tell_sync_lead(text: &mut TextBuilder, lead: Option<&Lead>, is_sure: bool)
-    ensures { Adds text.old (sync_words (option_map (λ lead. lead.now) lead.entry) is_sure) text.new }
-{
-    match lead {
-        Some(lead) => tell_sync_of(text, lead, is_sure),
-        None => {}
+    let Some(place) = place else {
+        return;
+    };
+    if let Some(lead) = lead_at(findings, place) {
+        text.push_bytes(lead.rounds.as_slice());
     }
 }
 
@@ -142,12 +109,13 @@ fn tell_sync_lead(text: &mut TextBuilder, lead: Option<&Lead>, is_sure: bool)
 fn tell_sync(text: &mut TextBuilder, findings: &[Finding], first: Option<usize>, places: &[usize])
     ensures { Adds text.old (found_sync findings.now first places.now) text.new }
 {
-    match first {
-        Some(place) => {
-            let is_sure = is_sure_first(findings, first, places);
-            tell_sync_lead(text, lead_at(findings, place), is_sure);
-        }
-        None => {}
+    let Some(place) = first else {
+        return;
+    };
+    if let Some(lead) = lead_at(findings, place) {
+        text.push_bytes(lead.sync.as_slice());
+        text.push_words(order_words(is_sure_first(findings, first, places)));
+        text.push_words("\n");
     }
 }
 
@@ -167,7 +135,7 @@ fn tell_member_at(text: &mut TextBuilder, findings: &[Finding], place: usize)
     ensures { Adds text.old (found_member findings.now place) text.new }
 {
     match findings.get(place) {
-        Some(finding) => tell_member(text, finding),
+        Some(finding) => tell_with(text, finding, finding.own_help.as_slice()),
         None => {}
     }
 }
@@ -179,18 +147,6 @@ fn tell_members(text: &mut TextBuilder, findings: &[Finding], places: &[usize])
     for place in places {
         tell_member_at(text, findings, *place);
     }
-}
-
-/// Tells how many are not shown.
-fn tell_behind(text: &mut TextBuilder, most: usize, count: usize)
-    ensures { Adds text.old (found_behind most count) text.new }
-{
-    if count <= most {
-        return;
-    }
-    text.push_words("and ");
-    push_count(text, count - most, "more pair");
-    text.push_words(" of places that part there (--all shows them)\n\n");
 }
 
 /// Tells of several findings that part at one spawn.
@@ -206,7 +162,13 @@ fn tell_many(
     tell_head(text, findings, head, places);
     let (shown, _) = places.split_at(places.len().min(most));
     tell_members(text, findings, shown);
-    tell_behind(text, most, places.len());
+    push_more_pairs(
+        text,
+        most,
+        places.len(),
+        " of places",
+        " that part there (--all shows them)\n\n",
+    );
 }
 
 /// Tells of a finding that is alone.

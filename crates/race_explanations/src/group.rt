@@ -8,11 +8,12 @@ ghost use Rattle.text_buffers.specs.Builders.{Adds};
 ghost use Rattle.race_explanations.specs.Scenes.{setting_of};
 ghost use Rattle.race_explanations.specs.Cases.{AreCases};
 ghost use Rattle.race_explanations.specs.SharedSyncs.{OneSyncOrders};
-ghost use Rattle.race_explanations.specs.Groups.{alone_at, alone_text, member_at, members_text, course_at, courses_of, before, nearer, first_among, is_ordered, has_round, leaves_open};
-ghost use Rattle.race_explanations.specs.Groups.{pairs_words, beside_text, first_text, rounds_text, is_sure, is_sure_of, is_sure_at, is_group_sure, sync_text, head_text, behind_text, many_text, text_at_line, group_text, groups_text};
+ghost use Rattle.race_explanations.specs.Groups.{alone_at, alone_text, member_at, members_text, course_at, courses_of, nearer, first_among, is_ordered, has_round, leaves_open};
+ghost use Rattle.race_explanations.specs.Groups.{pairs_words, beside_text, first_text, rounds_text, is_sure, is_sure_at, is_group_sure, sync_text, head_text, many_text, text_at_line, group_text, groups_text};
 
 use crate::advice::{push_function, push_rounds, push_sync};
 use crate::case::{Case, Course, course_of};
+use crate::extent::push_more_pairs;
 use crate::message::{push_case, push_member};
 use crate::paths::push_line;
 use crate::scene::{Origin, Scene};
@@ -130,30 +131,17 @@ fn courses_of(
     Ok(courses)
 }
 
-/// The one of the two whose spawner goes on to the lesser line, and the first where these are one.
-fn before(best: Option<Course>, course: Course) -> Course
-    ensures { result ≡ before best course }
-{
-    match best {
-        Some(best) => {
-            if course.line < best.line {
-                course
-            } else {
-                best
-            }
-        }
-        None => course,
-    }
-}
-
-/// The same of such whose spawner goes on to another line than that of the spawn.
+/// The one of the two whose spawner goes on to the lesser line, and the first where these are one. One whose spawner goes on to the line of
+/// the spawn does not count.
 fn nearer(best: Option<Course>, course: Course) -> Option<Course>
     ensures { result ≡ nearer best course }
 {
     if course.is_round {
-        best
-    } else {
-        Some(before(best, course))
+        return best;
+    }
+    match best {
+        Some(best) if !(course.line < best.line) => Some(best),
+        _ => Some(course),
     }
 }
 
@@ -210,16 +198,6 @@ fn is_sure(scene: &Scene<'_, '_>, line: u32, first: Course, courses: &[Course]) 
     are_in_one_call(scene, line, first.line) && !leaves_open(first, courses)
 }
 
-/// The same, where there is a first one.
-fn is_sure_of(scene: &Scene<'_, '_>, line: u32, first: Option<Course>, courses: &[Course]) -> bool
-    ensures { result ≡ is_sure_of (setting_of scene.now) line first courses.now }
-{
-    match first {
-        Some(first) => is_sure(scene, line, first, courses),
-        None => false,
-    }
-}
-
 /// Whether the sync that is told of the races at these places, which part at spawns on a line, orders them all.
 fn is_sure_at(
     alloc: Global,
@@ -231,8 +209,10 @@ fn is_sure_at(
     ensures { IfOk result (λ is_sure. is_sure ≡ is_sure_at (setting_of scene.now) cases.now line places.now) }
 {
     let courses = courses_of(alloc, scene, cases, places)?;
-    let first = first_among(courses.as_slice());
-    Ok(is_sure_of(scene, line, first, courses.as_slice()))
+    match first_among(courses.as_slice()) {
+        Some(first) => Ok(is_sure(scene, line, first, courses.as_slice())),
+        None => Ok(false),
+    }
 }
 
 /// Whether the sync that is told of the races of a group orders them all: of each race whose strands part, an entry on the line that is told
@@ -338,19 +318,6 @@ fn push_head(
     text.push_words("\n");
 }
 
-/// Adds how many of the races that part at one spawn are not shown.
-fn push_behind(text: &mut TextBuilder, scene: &Scene<'_, '_>, most: usize, count: usize)
-    ensures { Adds text.old (behind_text (setting_of scene.now).origin most count) text.new }
-{
-    if count <= most {
-        return;
-    }
-    text.push_words("and ");
-    push_count(text, count - most, "more pair");
-    text.push_words(pairs_words(scene));
-    text.push_words(" that part there (--all shows them)\n\n");
-}
-
 /// Tells of several races that part at one spawn.
 fn push_many(
     alloc: Global,
@@ -369,7 +336,13 @@ fn push_many(
     push_head(text, scene, line, places.len(), courses.as_slice());
     let (shown, _) = places.split_at(places.len().min(most));
     push_members(alloc, text, scene, cases, shown);
-    push_behind(text, scene, most, places.len());
+    push_more_pairs(
+        text,
+        most,
+        places.len(),
+        pairs_words(scene),
+        " that part there (--all shows them)\n\n",
+    );
 }
 
 /// Tells of races that part at spawns on a line.

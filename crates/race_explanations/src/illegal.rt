@@ -9,7 +9,7 @@ ghost use Rattle.model_histories.specs.Legal.{IsLegal};
 ghost use Rattle.model_histories.specs.Shapes.{Shape};
 ghost use Rattle.model_histories.specs.States.{GateState};
 ghost use Rattle.text_buffers.specs.Builders.{Adds};
-ghost use Rattle.race_explanations.specs.Illegal.{HasReason, request_line, at_of, strand_of, told_line, told_request, title_words, help_words, reason_text};
+ghost use Rattle.race_explanations.specs.Illegal.{HasReason, request_line, at_of, strand_of, told_request, title_words, help_words, reason_text};
 ghost use Rattle.race_explanations.specs.Illegal.{error_title, request_note, help_note, illegal_in, illegal_text};
 
 use race_gate::{Entry, GateFault};
@@ -132,21 +132,15 @@ pub fn help_words(why: Illegality) -> &'static str
     }
 }
 
-/// Adds a line of the trace in a sentence.
-fn push_line(text: &mut TextBuilder, source: &Source<'_>, number: u32)
-    ensures { Adds text.old (told_line source.now number) text.new }
-{
-    text.push_number("line ", u64::from(number));
-    text.push_words(": `");
-    text.push_bytes(statement_of(source.line(number)));
-    text.push_words("`");
-}
-
 /// Adds the line of the request with this number.
 fn push_request(text: &mut TextBuilder, source: &Source<'_>, trace: &Trace<Global>, number: usize)
     ensures { Adds text.old (told_request source.now (trace_contents trace.now).lines number) text.new }
 {
-    push_line(text, source, at_of(request_line(trace, number)));
+    let line = at_of(request_line(trace, number));
+    text.push_number("line ", u64::from(line));
+    text.push_words(": `");
+    text.push_bytes(statement_of(source.line(line)));
+    text.push_words("`");
 }
 
 /// Adds what is so of the strand.
@@ -174,16 +168,6 @@ fn push_reason(text: &mut TextBuilder, source: &Source<'_>, trace: &Trace<Global
         }
         Illegality::NoName => text.push_words(" asks for what the trace does not declare"),
     }
-}
-
-/// Adds what is wrong.
-fn push_title(text: &mut TextBuilder, look: Look, why: Illegality)
-    ensures { Adds text.old (error_title look why) text.new }
-{
-    push_painted(text, look, Paint::Red, "error");
-    text.push_words(": ");
-    text.push_words(title_words(why));
-    text.push_words("\n");
 }
 
 /// Adds the number of the request, and what is so of its strand.
@@ -226,7 +210,10 @@ fn push_head(
 )
     ensures { Adds text.old (error_title look why ++ place look file.now line ++ marked look source.now line 94 ++ codes "\n") text.new }
 {
-    push_title(text, look, why);
+    push_painted(text, look, Paint::Red, "error");
+    text.push_words(": ");
+    text.push_words(title_words(why));
+    text.push_words("\n");
     push_place(text, look, file, line);
     push_marked_line(text, look, source, line, b'^');
     text.push_words("\n");

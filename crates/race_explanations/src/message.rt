@@ -6,7 +6,7 @@ ghost use Rattle.text_buffers.specs.Builders.{Adds};
 ghost use Rattle.race_explanations.specs.Scenes.{setting_of};
 ghost use Rattle.race_explanations.specs.Advice.{help_note, sync_help_of, move_help_of};
 ghost use Rattle.race_explanations.specs.Messages.{witness_text, earlier_text, where_text, help_of, own_help_of};
-ghost use Rattle.race_explanations.specs.Messages.{verdict_words, refused_text, advice_text, message, case_text, member_message, member_text};
+ghost use Rattle.race_explanations.specs.Messages.{verdict_words, refused_text, case_text, member_text};
 
 use crate::advice::{
     line_on, move_help, push_between, push_move_note, push_opened, push_parted, push_put_note,
@@ -104,11 +104,7 @@ pub(crate) fn push_own_help(
 {
     match pair.lines.reason {
         Reason::Race { .. } => {}
-        Reason::ViewRead => {
-            let refused = encounter.refused.strand;
-            push_move_note(text, scene, pair, refused, encounter.outstanding);
-        },
-        Reason::Unset => push_put_note(text, scene),
+        Reason::ViewRead | Reason::Unset => push_help(text, scene, pair, encounter, false),
     }
 }
 
@@ -198,39 +194,6 @@ pub fn help_of(
     }
 }
 
-/// Adds where the two part, and what orders them.
-fn push_advice(
-    text: &mut TextBuilder,
-    scene: &Scene<'_, '_>,
-    pair: &Pair,
-    encounter: &Encounter,
-    is_sure: bool,
-)
-    ensures { Adds text.old (advice_text pair.now.lines.reason (setting_of scene.now) pair.now encounter.now is_sure) text.new }
-{
-    push_where(text, scene, pair, encounter);
-    push_help(text, scene, pair, encounter, is_sure);
-}
-
-/// Adds all that is told of a pair of lines.
-fn push_message(
-    alloc: Global,
-    text: &mut TextBuilder,
-    scene: &Scene<'_, '_>,
-    pair: &Pair,
-    places: &[u32],
-    encounter: &Encounter,
-    is_sure: bool,
-)
-    ensures { Adds text.old (message (setting_of scene.now) pair.now places.now encounter.now is_sure) text.new }
-{
-    push_title(alloc, text, scene, pair, places);
-    push_earlier(text, scene, pair, encounter);
-    push_refused(text, scene, pair, encounter);
-    push_advice(text, scene, pair, encounter, is_sure);
-    text.push_words("\n");
-}
-
 /// Adds all that is told of a race.
 pub(crate) fn push_case(
     alloc: Global,
@@ -241,46 +204,13 @@ pub(crate) fn push_case(
 )
     ensures { Adds text.old (case_text (setting_of scene.now) case.now is_sure) text.new }
 {
-    push_message(
-        alloc,
-        text,
-        scene,
-        &case.race.pair,
-        case.race.places.as_slice(),
-        &case.encounter,
-        is_sure,
-    );
-}
-
-/// Adds where one of several races that part at one spawn does so, and what is not told of all of them.
-fn push_own_advice(
-    text: &mut TextBuilder,
-    scene: &Scene<'_, '_>,
-    pair: &Pair,
-    encounter: &Encounter,
-)
-    ensures { Adds text.old (where_text pair.now.lines.reason (setting_of scene.now) pair.now encounter.now ++
-        help_note (setting_of scene.now) (own_help_of pair.now.lines.reason (setting_of scene.now) pair.now encounter.now)) text.new }
-{
-    push_where(text, scene, pair, encounter);
-    push_own_help(text, scene, pair, encounter);
-}
-
-/// Adds all that is told of one of several pairs that part at one spawn.
-fn push_member_message(
-    alloc: Global,
-    text: &mut TextBuilder,
-    scene: &Scene<'_, '_>,
-    pair: &Pair,
-    places: &[u32],
-    encounter: &Encounter,
-)
-    ensures { Adds text.old (member_message (setting_of scene.now) pair.now places.now encounter.now) text.new }
-{
-    push_title(alloc, text, scene, pair, places);
+    let pair = &case.race.pair;
+    let encounter = &case.encounter;
+    push_title(alloc, text, scene, pair, case.race.places.as_slice());
     push_earlier(text, scene, pair, encounter);
     push_refused(text, scene, pair, encounter);
-    push_own_advice(text, scene, pair, encounter);
+    push_where(text, scene, pair, encounter);
+    push_help(text, scene, pair, encounter, is_sure);
     text.push_words("\n");
 }
 
@@ -293,12 +223,12 @@ pub(crate) fn push_member(
 )
     ensures { Adds text.old (member_text (setting_of scene.now) case.now) text.new }
 {
-    push_member_message(
-        alloc,
-        text,
-        scene,
-        &case.race.pair,
-        case.race.places.as_slice(),
-        &case.encounter,
-    );
+    let pair = &case.race.pair;
+    let encounter = &case.encounter;
+    push_title(alloc, text, scene, pair, case.race.places.as_slice());
+    push_earlier(text, scene, pair, encounter);
+    push_refused(text, scene, pair, encounter);
+    push_where(text, scene, pair, encounter);
+    push_own_help(text, scene, pair, encounter);
+    text.push_words("\n");
 }

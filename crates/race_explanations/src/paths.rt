@@ -6,7 +6,7 @@ ghost use Rattle.trace_notes.specs.Places.{place_parts};
 ghost use Rattle.text_buffers.specs.Builders.{Adds};
 ghost use Rattle.race_explanations.specs.Scenes.{setting_of};
 ghost use Rattle.race_explanations.specs.Names.{statement, function_at};
-ghost use Rattle.race_explanations.specs.Paths.{site_words, line_words, function_within, place_within, within, shown_within};
+ghost use Rattle.race_explanations.specs.Paths.{site_words, line_words, function_within, place_within, within};
 ghost use Rattle.race_explanations.specs.Paths.{code_line, code_at, placed, shown_line, statement_text};
 ghost use Rattle.race_explanations.specs.Paths.{access_text, link_text, links_text, links_left_out, chain_text};
 
@@ -72,16 +72,6 @@ fn push_within(text: &mut TextBuilder, scene: &Scene<'_, '_>, line: u32)
     }
 }
 
-/// Adds in which function an access stands that is shown, where it is not told yet.
-fn push_shown_within(text: &mut TextBuilder, scene: &Scene<'_, '_>, line: u32)
-    ensures { Adds text.old (shown_within (setting_of scene.now).origin line) text.new }
-{
-    match &scene.origin {
-        Origin::Program { .. } => push_within(text, scene, line),
-        Origin::Trace { .. } => {}
-    }
-}
-
 /// Adds the code at a place, where its note has it.
 fn push_code(text: &mut TextBuilder, scene: &Scene<'_, '_>, place: Option<Place<'_>>)
     ensures { Adds text.old (code_at scene.now.look (option_map place_parts place.entry)) text.new }
@@ -124,7 +114,7 @@ pub(crate) fn push_shown(text: &mut TextBuilder, scene: &Scene<'_, '_>, line: u3
     }
 }
 
-/// Adds the line of the entry with this number, and below it what its access did and in which function.
+/// Adds the line of the entry with this number, and below it what its access did and in which function, where it is not told yet.
 pub(crate) fn push_access(
     text: &mut TextBuilder,
     scene: &Scene<'_, '_>,
@@ -138,7 +128,10 @@ pub(crate) fn push_access(
     push_shown(text, scene, line, mark);
     text.push_words(" this ");
     text.push_words(side_word(side));
-    push_shown_within(text, scene, line);
+    match &scene.origin {
+        Origin::Program { .. } => push_within(text, scene, line),
+        Origin::Trace { .. } => {}
+    }
 }
 
 /// Adds the statement of a line, behind what is told of it.

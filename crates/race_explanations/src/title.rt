@@ -6,7 +6,7 @@ ghost use Rattle.trace_notes.specs.Notes.{noted_text};
 ghost use Rattle.text_buffers.specs.Builders.{Adds};
 ghost use Rattle.race_explanations.specs.Scenes.{setting_of};
 ghost use Rattle.race_explanations.specs.Titles.{sort_word, reason_words, name_of_place, noted_name, told_name, spaced_name, other_names};
-ghost use Rattle.race_explanations.specs.Titles.{listed_names, told_names, name_count, most_names, left_out, names_text, headline, heading, title_text};
+ghost use Rattle.race_explanations.specs.Titles.{listed_names, told_names, name_count, most_names, left_out, names_text, headline, title_text};
 
 use crate::scene::{Origin, Scene};
 use access_table::word;
@@ -167,24 +167,6 @@ pub fn display_names(
     Ok(names)
 }
 
-/// How many names there are.
-fn name_count(
-    alloc: Global,
-    scene: &Scene<'_, '_>,
-    reason: Reason,
-    places: &[u32],
-) -> Result<usize, AllocError>
-    ensures { IfOk result (λ count. count ≡ name_count (setting_of scene.now).origin (setting_of scene.now) reason places.now) }
-{
-    match &scene.origin {
-        Origin::Program { .. } => Ok(places.len()),
-        Origin::Trace { .. } => {
-            let names = display_names(alloc, scene, reason, places)?;
-            Ok(names.len())
-        }
-    }
-}
-
 /// How many names are told at most: what a name stands for in a trace is long.
 fn most_names(scene: &Scene<'_, '_>) -> usize
     ensures value { result ≡ most_names (setting_of scene.now).origin }
@@ -218,9 +200,12 @@ fn push_rest(
 )
     ensures { Adds text.old (left_out most (name_count (setting_of scene.now).origin (setting_of scene.now) reason places.now)) text.new }
 {
-    match name_count(alloc, scene, reason, places) {
-        Ok(count) => push_left_out(text, most, count),
-        Err(_) => text.fail(),
+    match &scene.origin {
+        Origin::Program { .. } => push_left_out(text, most, places.len()),
+        Origin::Trace { .. } => match display_names(alloc, scene, reason, places) {
+            Ok(names) => push_left_out(text, most, names.len()),
+            Err(_) => text.fail(),
+        },
     }
 }
 
@@ -259,17 +244,7 @@ fn push_headline(
     push_count(text, pair.times, "time");
 }
 
-/// Adds where a program's line is; a place of a trace is told with the access.
-fn push_heading(text: &mut TextBuilder, scene: &Scene<'_, '_>, line: u32)
-    ensures { Adds text.old (heading scene.now.look (setting_of scene.now).origin line) text.new }
-{
-    match &scene.origin {
-        Origin::Program { file, .. } => push_place(text, scene.look, file, line),
-        Origin::Trace { .. } => {}
-    }
-}
-
-/// Adds the kind of the race, what it was on, how often it came, and where.
+/// Adds the kind of the race, what it was on, how often it came, and where a program's line is; a place of a trace is told with the access.
 pub(crate) fn push_title(
     alloc: Global,
     text: &mut TextBuilder,
@@ -281,5 +256,8 @@ pub(crate) fn push_title(
 {
     push_headline(alloc, text, scene, pair, places);
     text.push_words("\n");
-    push_heading(text, scene, pair.lines.line);
+    match &scene.origin {
+        Origin::Program { file, .. } => push_place(text, scene.look, file, pair.lines.line),
+        Origin::Trace { .. } => {}
+    }
 }

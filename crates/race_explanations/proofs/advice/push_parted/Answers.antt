@@ -1,4 +1,14 @@
+use Rattle.std.proofs.Common.{ap}
+use Rattle.race_explanations.specs.Scenes.{setting_of}
+use Rattle.race_explanations.specs.Paths.{line_words}
+use Rattle.race_explanations.specs.Advice.{function_word}
+use Rattle.text_buffers.proofs.Builders.{these, two_adds, three_adds, five_adds}
 use Rattle.race_explanations.proofs.advice.push_parted.Goals as goal
 
 pub returns-in-Some : goal.returns-in-Some
-returns-in-Some c = rw c.in-Some.is c.push_parts.ensures
+returns-in-Some c =
+    rw c.in-Some.is (five_adds _ _ _ _ _ _ _ _ _ _ _ c.push_spawn.ensures
+    (two_adds _ _ _ _ _ c.push_words.ensures
+    (these _ _ _ _ c.push_line.ensures (ap (line_words (setting_of c.args.scene.now).origin) c.line_on-child_line.ensures)))
+    c.push_words-in-Some.ensures (these _ _ _ _ c.push_function.ensures (ap (function_word (setting_of c.args.scene.now)) c.line_of.ensures))
+    (three_adds _ _ _ _ _ _ _ c.push_words-in-Some-2.ensures c.push_line-in-Some.ensures c.push_words-in-Some-3.ensures))

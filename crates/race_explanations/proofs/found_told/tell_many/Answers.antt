@@ -10,4 +10,4 @@ returns c =
     three_adds _ _ _ _ _ _ _ c.tell_head.ensures
     (these _ _ _ (flat_map (found_member c.args.findings.now) (take c.args.most c.args.places.now)) c.tell_members.ensures
     (ap (flat_map (found_member c.args.findings.now)) (front ∙ first_of_all c.args.places.now c.args.most)))
-    (these _ _ _ (found_behind c.args.most (length c.args.places.now)) c.tell_behind.ensures (search rules))
+    (these _ _ _ (found_behind c.args.most (length c.args.places.now)) c.push_more_pairs.ensures (search rules))

@@ -13,4 +13,4 @@ returns c =
     (these _ _ _ _ c.push_head.ensures (ap (head_text setting c.args.line (length c.args.places.now)) (c.as_slice.ensures.value ∙ c.in-Ok.ensures)))
     (these _ _ _ (members_text setting c.args.cases.now (take c.args.most c.args.places.now)) c.push_members.ensures
     (ap (members_text setting c.args.cases.now) (front ∙ first_of_all c.args.places.now c.args.most)))
-    (these _ _ _ (behind_text setting.origin c.args.most (length c.args.places.now)) c.push_behind.ensures (search rules))
+    (these _ _ _ (behind_text setting.origin c.args.most (length c.args.places.now)) c.push_more_pairs.ensures (search rules))

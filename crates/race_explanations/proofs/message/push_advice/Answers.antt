@@ -1,5 +1,0 @@
-use Rattle.text_buffers.proofs.Builders.{two_adds}
-use Rattle.race_explanations.proofs.message.push_advice.Goals as goal
-
-pub returns : goal.returns
-returns c = two_adds _ _ _ _ _ c.push_where.ensures c.push_help.ensures
