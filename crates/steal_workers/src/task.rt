@@ -43,21 +43,6 @@ impl<'p, A: Allocator> Drop for Task<'p, A> {
     }
 }
 
-/// The function that a frame spawns, which wants this act. The frame is not asked where it can be none.
-fn spawn_target<A: Allocator>(
-    frame: &Frame<A>,
-    program: &Program<Global>,
-    act: Act,
-) -> Option<Target>
-    requires { Stands program.now.functions frame.now }
-    ensures { IfSome result (λ target. target.function < length program.now.functions) }
-{
-    match act {
-        Act::Spawn => frame.spawns(program),
-        _ => None,
-    }
-}
-
 /// What a task asks next, and what its frame knows of it before it is answered.
 #[derive(Clone, Copy)]
 pub(crate) struct NextRequest {
@@ -66,62 +51,6 @@ pub(crate) struct NextRequest {
     pub(crate) target: Option<Target>,
     /// The join of the block that is open.
     pub(crate) join: Option<u32>,
-}
-
-/// What a frame asks next, on this strand.
-#[inline(always)]
-fn next_of<A: Allocator>(
-    frame: &mut Frame<A>,
-    program: &Program<Global>,
-    strand: u32,
-) -> Result<NextRequest, RunFault>
-    requires { Stands program.now.functions frame.old }
-    ensures stands { Stands program.now.functions frame.new }
-    ensures on { IfOk result (λ next. next.request.strand ≡ strand) }
-    ensures wanted { IfOk result (λ next. (function argument : ℕ) (history : List Exchange) (x : Exchange) →
-        IsAfter program.now.functions function argument history frame.old → CanFollow program.now.functions function argument history x →
-        (x.act ≡ next.request.act) × (x.line ≡ next.request.line)) }
-    ensures target { IfOk result (λ next. IfSome next.target (λ target. target.function < length program.now.functions)) }
-    ensures err { IfErr result (λ fault. fault ≢ RunFault.Torn) }
-{
-    if frame.is_over() {
-        return Err(RunFault::Strange);
-    }
-    frame.reserve_call()?;
-    let want = frame.next(program);
-    let request = Request {
-        strand,
-        act: want.act,
-        line: want.line,
-    };
-    Ok(NextRequest {
-        request,
-        target: spawn_target(frame, program, want.act),
-        join: frame.block_join(),
-    })
-}
-
-/// A function at its begin, in a frame of the reserve where there is one.
-fn begin_frame<A: Allocator + Copy>(
-    alloc: A,
-    program: &Program<Global>,
-    target: Target,
-    spare: &mut Spare<A>,
-) -> Result<Box<Frame<A>, A>, AllocError>
-    requires { target.function < length program.now.functions }
-    ensures stands { IfOk result (λ frame. Stands program.now.functions frame.value) }
-    ensures begun { IfOk result (λ frame. IsAfter program.now.functions target.function target.argument [] frame.value) }
-{
-    match spare.pop() {
-        Some(mut frame) => {
-            frame.restart(program, target.function, target.argument);
-            Ok(frame)
-        }
-        None => {
-            let frame = Frame::new(alloc, program, target.function, target.argument);
-            Ok(Box::new(alloc, frame)?)
-        }
-    }
 }
 
 impl<'p, A: Allocator + Copy> Task<'p, A> {
@@ -158,7 +87,16 @@ impl<'p, A: Allocator + Copy> Task<'p, A> {
         ensures program { IfOk result (λ task. task.program ≡ program.entry) }
         ensures begun { IfOk result (IsBegun target.function target.argument) }
     {
-        let frame = begin_frame(alloc, program, target, spare)?;
+        let frame = match spare.pop() {
+            Some(mut frame) => {
+                frame.restart(program, target.function, target.argument);
+                frame
+            }
+            None => {
+                let frame = Frame::new(alloc, program, target.function, target.argument);
+                Box::new(alloc, frame)?
+            }
+        };
         Ok(Task {
             strand,
             program,
@@ -182,7 +120,25 @@ impl<'p, A: Allocator> Task<'p, A> {
             IfSome next.target (λ target. target.function < length self.old.program.now.functions)) }
         ensures err { IfErr result (λ fault. fault ≢ RunFault.Torn) }
     {
-        next_of(&mut self.frame, self.program, self.strand)
+        let (frame, program) = (&mut *self.frame, self.program);
+        if frame.is_over() {
+            return Err(RunFault::Strange);
+        }
+        frame.reserve_call()?;
+        let want = frame.next(program);
+        Ok(NextRequest {
+            request: Request {
+                strand: self.strand,
+                act: want.act,
+                line: want.line,
+            },
+            // The frame is not asked where it can be none.
+            target: match want.act {
+                Act::Spawn => frame.spawns(program),
+                _ => None,
+            },
+            join: frame.block_join(),
+        })
     }
 
     /// The frame takes the answer to what it asked.

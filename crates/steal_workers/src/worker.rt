@@ -24,7 +24,6 @@ use std::sync::ledger::Ledger;
 use text_words::Request;
 
 /// Where a worker goes on after an answer.
-#[derive(Clone, Copy)]
 enum NextStep {
     /// With the task that it has.
     Ahead,
@@ -115,21 +114,6 @@ impl<'p, L: Ledger, A: Allocator + Copy> Worker<'p, L, A> {
         self.ends.push(root)
     }
 
-    /// Asks, and keeps the receipt, which has to be of that request.
-    fn ask<G: Ask<L>, R: Wait>(
-        &mut self,
-        rt: &R,
-        gate: &G,
-        request: Request,
-    ) -> Result<Answer, RunFault>
-        ensures station { station_of self.new ≡ station_of self.old }
-        ensures ends { self.new.ends ≡ self.old.ends }
-        ensures kept { KeepsReceipt request self.old.receipts.items self.new.receipts.items result }
-    {
-        let Worker { seat, receipts, .. } = self;
-        seat.ask(rt, gate, receipts, request)
-    }
-
     /// Asks what a task asks next, and goes on with it in place as far as the answer says so. Whoever is told to hand it out does that.
     fn step<G: Ask<L>, R: Wait>(
         &mut self,
@@ -145,7 +129,7 @@ impl<'p, L: Ledger, A: Allocator + Copy> Worker<'p, L, A> {
         ensures torn { result ≡ Err RunFault.Torn → EndsAtJoin self.new.receipts.items }
     {
         let next = task.next_request()?;
-        let answer = self.ask(rt, gate, next.request)?;
+        let answer = self.seat.ask(rt, gate, &mut self.receipts, next.request)?;
         task.answer(&answer)?;
         self.follow(rt, alloc, lot, task, answer, next)
     }
