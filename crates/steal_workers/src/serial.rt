@@ -8,6 +8,7 @@ use locked_replay::RunFault;
 use program_text::Program;
 use race_gate::{Answer, ShortGate};
 use std::alloc::{Allocator, Global};
+use std::mem;
 
 /// The most requests that a gate answers.
 const MOST_REQUESTS: u32 = 1_000_000;
@@ -29,60 +30,49 @@ fn ask_next<A: Allocator + Clone>(
     Ok((receipt.answer, next.target))
 }
 
-/// The task of a child on its strand. The spawner waits for its return, to go on on the next strand.
-fn enter_child<'p, A: Allocator + Copy>(
+/// Goes on behind an answer: with the task, with the child that it spawned, or with what waited for its return. Answers whether the run
+/// goes on.
+fn go_on<'p, A: Allocator + Copy>(
     alloc: A,
     waiting: &mut Waiting<'p, A>,
     spare: &mut Spare<A>,
-    spawner: Task<'p, A>,
-    child: u32,
-    next: u32,
-    target: Option<Target>,
-) -> Result<Task<'p, A>, RunFault>
-    requires { IfSome target (λ target. target.function < length spawner.program.now.functions) }
-{
-    let Some(target) = target else {
-        return Err(RunFault::Strange);
-    };
-    waiting.reserve(1)?;
-    let child = Task::for_child(alloc, spawner.program, child, target, spare)?;
-    waiting.push_reserved(spawner.on(next));
-    Ok(child)
-}
-
-/// What goes on behind an answer: the task, the child that it spawned, or what waited for its return; and None at the end of the run.
-fn next_task<'p, A: Allocator + Copy>(
-    alloc: A,
-    waiting: &mut Waiting<'p, A>,
-    spare: &mut Spare<A>,
-    task: Task<'p, A>,
+    task: &mut Task<'p, A>,
     answer: Answer,
     target: Option<Target>,
-) -> Result<Option<Task<'p, A>>, RunFault>
-    requires { IfSome target (λ target. target.function < length task.program.now.functions) }
+) -> Result<bool, RunFault>
+    requires { IfSome target (λ target. target.function < length task.old.program.now.functions) }
 {
     match answer {
         Answer::Split(strands) => {
-            let (child, next) = (strands.child, strands.next);
-            Ok(Some(enter_child(alloc, waiting, spare, task, child, next, target)?))
+            let Some(target) = target else {
+                return Err(RunFault::Strange);
+            };
+            waiting.reserve(1)?;
+            let child = Task::for_child(alloc, task.program, strands.child, target, spare)?;
+            let spawner = mem::replace(task, child);
+            waiting.push_reserved(spawner.on(strands.next));
+            Ok(true)
         }
-        Answer::Joined(join) => Ok(Some(task.on(join))),
+        Answer::Joined(join) => {
+            task.strand = join;
+            Ok(true)
+        }
         Answer::Ended => {
-            task.retire(spare);
-            match waiting.pop() {
-                Some(spawner) => Ok(Some(spawner)),
-                None => Err(RunFault::Strange),
-            }
+            let Some(spawner) = waiting.pop() else {
+                return Err(RunFault::Strange);
+            };
+            mem::replace(task, spawner).retire(spare);
+            Ok(true)
         }
         // Each child has returned before its spawner goes on.
         Answer::Waits | Answer::EndedJoined(_) => Err(RunFault::Strange),
-        Answer::Finished => Ok(None),
+        Answer::Finished => Ok(false),
         Answer::Same
         | Answer::Resumed
         | Answer::Granted
         | Answer::Value(_)
         | Answer::Refused { .. }
-        | Answer::Unset => Ok(Some(task)),
+        | Answer::Unset => Ok(true),
     }
 }
 
@@ -98,9 +88,8 @@ pub fn run_serially<A: Allocator + Copy>(
     let mut task = Task::root(alloc, program, &mut spare)?;
     for _ in 0..=MOST_REQUESTS {
         let (answer, target) = ask_next(gate, &mut task)?;
-        match next_task(alloc, &mut waiting, &mut spare, task, answer, target)? {
-            Some(next) => task = next,
-            None => return Ok(()),
+        if !go_on(alloc, &mut waiting, &mut spare, &mut task, answer, target)? {
+            return Ok(());
         }
     }
     Err(RunFault::Limit)
