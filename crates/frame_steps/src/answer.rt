@@ -1,8 +1,8 @@
 //! What answers do to registers.
 
-ghost use Rattle.std.specs.Prelude.{◌≡◌, slice_set};
-ghost use Rattle.model_programs.specs.Values.{Registers, with_ok};
-ghost use Rattle.model_programs.specs.Answers.{after_read, after_get, after_write, after_update, after_spawn, after_sync};
+ghost use Rattle.std.specs.Prelude.{◌≡◌};
+ghost use Rattle.model_programs.specs.Values.{with_ok};
+ghost use Rattle.model_programs.specs.Answers.{after_read, after_get, after_write, after_update};
 ghost use Rattle.frame_steps.specs.Answers.{IsTaken};
 ghost use Rattle.frame_steps.specs.Requests.{answered};
 
@@ -21,8 +21,10 @@ pub fn apply_answer(registers: &mut [u64; REGISTERS], statement: Statement, answ
         Statement::Update { .. } => apply_update(registers, answer),
         Statement::Put { .. } => apply_write(registers, answer),
         Statement::Get { register, .. } => apply_get(registers, register, answer),
-        Statement::Spawn { .. } => is_spawn_answer(answer),
-        Statement::Sync { .. } => is_sync_answer(answer),
+        Statement::Spawn { .. } => matches!(answer, Answer::Split(_)),
+        Statement::Sync { .. } => {
+            matches!(answer, Answer::Same | Answer::Joined(_) | Answer::Waits)
+        }
         _ => false,
     }
 }
@@ -41,21 +43,14 @@ fn set_refused(registers: &mut [u64; REGISTERS])
     registers[0] = 0;
 }
 
-/// Sets `ok` to 1, and then a register to this value.
-fn grant_value(registers: &mut [u64; REGISTERS], register: Register, value: u64)
-    ensures { registers.new ≡ slice_set (with_ok 1 registers.old) register.index value }
-{
-    registers[0] = 1;
-    registers[usize::from(register.index)] = value;
-}
-
 /// An answer to a read.
 fn apply_read(registers: &mut [u64; REGISTERS], register: Register, answer: &Answer) -> bool
     ensures { IsTaken (after_read register answer.now registers.old) result registers.old registers.new }
 {
     match answer {
         Answer::Value(value) => {
-            grant_value(registers, register, *value);
+            set_granted(registers);
+            registers[usize::from(register.index)] = *value;
             true
         }
         Answer::Refused { .. } => {
@@ -107,18 +102,4 @@ fn apply_update(registers: &mut [u64; REGISTERS], answer: &Answer) -> bool
         }
         _ => false,
     }
-}
-
-/// Whether an answer belongs to a spawn.
-fn is_spawn_answer(answer: &Answer) -> bool
-    ensures { (registers : Registers) → IsTaken (after_spawn answer.now registers) result registers registers }
-{
-    matches!(answer, Answer::Split(_))
-}
-
-/// Whether an answer belongs to a sync.
-fn is_sync_answer(answer: &Answer) -> bool
-    ensures { (registers : Registers) → IsTaken (after_sync answer.now registers) result registers registers }
-{
-    matches!(answer, Answer::Same | Answer::Joined(_) | Answer::Waits)
 }
