@@ -1,88 +1,83 @@
 //! The text of a drawing in Graphviz's language.
 
-ghost use Rattle.std.specs.Prelude.{◌≡◌, ◌++◌, OnOk, IfOk, IsTrue, codes, decimal, flat_map, map, string_bytes};
+ghost use Rattle.std.specs.Prelude.{◌≡◌, IfOk, IsTrue, flat_map, map, string_bytes};
+ghost use Rattle.text_buffers.specs.Builders.{Adds};
 ghost use Rattle.trace_text.specs.Shapes.{is_numbered};
-ghost use Rattle.dag_drawing.specs.Texts.{escape, escaped, kind_word, edge_text, red_text};
-ghost use Rattle.dag_drawing.specs.Labels.{naming_of, title_lines};
+ghost use Rattle.dag_drawing.specs.Texts.{escape, escaped, kind_word, edge_text};
+ghost use Rattle.dag_drawing.specs.Labels.{naming_of, node_lines};
 ghost use Rattle.dag_drawing.specs.Dots.{line_text, box_text, boxes_text, arc_text, heading_text, dot_text};
 
-use crate::blanks::push_filled;
 use crate::drawing::{Access, Drawing, Edge, EdgeKind, Race};
+use crate::drawing_text::DrawingText;
 use crate::labels::{Names, node_lines, own_of, race_label};
 use std::alloc::{AllocError, Allocator};
-use text_buffers::push_words;
 
 /// Adds a byte as it stands between quotation marks.
-fn push_escape<A: Allocator>(text: &mut Vec<u8, A>, byte: u8) -> Result<(), AllocError>
-    ensures { OnOk result (text.new.items ≡ text.old.items ++ escape byte) }
+fn push_escape<A: Allocator>(text: &mut DrawingText<A>, byte: u8)
+    ensures { Adds text.old (escape byte) text.new }
 {
     if byte == b'"' || byte == b'\\' {
-        text.extend_from_slice(&[b'\\', byte])
+        text.push_bytes(&[b'\\', byte]);
     } else {
-        text.extend_from_slice(&[byte])
+        text.push_bytes(&[byte]);
     }
 }
 
 /// Adds text as it stands between quotation marks.
-fn push_escaped<A: Allocator>(text: &mut Vec<u8, A>, name: &str) -> Result<(), AllocError>
-    ensures { OnOk result (text.new.items ≡ text.old.items ++ escaped name.now) }
+fn push_escaped<A: Allocator>(text: &mut DrawingText<A>, name: &str)
+    ensures { Adds text.old (escaped name.now) text.new }
 {
     for byte in name.as_bytes() {
-        push_escape(text, *byte)?;
+        push_escape(text, *byte);
     }
-    Ok(())
-}
-
-/// Adds a line of a label.
-fn push_line<A: Allocator>(text: &mut Vec<u8, A>, line: &str) -> Result<(), AllocError>
-    ensures { OnOk result (text.new.items ≡ text.old.items ++ line_text line.now) }
-{
-    push_escaped(text, line)?;
-    push_words(text, "\\l")
 }
 
 /// Adds the lines of a label.
-fn push_lines<A: Allocator>(text: &mut Vec<u8, A>, lines: &[String<A>]) -> Result<(), AllocError>
-    ensures { OnOk result (text.new.items ≡ text.old.items ++ flat_map line_text (map string_bytes lines.now)) }
+fn push_lines<A: Allocator>(text: &mut DrawingText<A>, lines: &[String<A>])
+    ensures { Adds text.old (flat_map line_text (map string_bytes lines.now)) text.new }
 {
     for line in lines {
-        push_line(text, line.as_str())?;
+        push_escaped(text, line.as_str());
+        text.push_words("\\l");
     }
-    Ok(())
 }
 
-/// Adds a strand with the lines of its node.
-fn push_box<A: Allocator>(
-    text: &mut Vec<u8, A>,
+/// Adds a strand with its accesses.
+fn push_box<A: Allocator + Copy>(
+    alloc: A,
+    text: &mut DrawingText<A>,
+    names: &Names<'_, A>,
     strand: usize,
-    lines: &[String<A>],
-) -> Result<(), AllocError>
-    ensures { OnOk result (text.new.items ≡ text.old.items ++ box_text strand (map string_bytes lines.now)) }
+    own: &[Access],
+)
+    requires numbered { IsTrue (is_numbered 0 names.now.mems.now) }
+    ensures { Adds text.old (box_text strand (node_lines (naming_of names.now) strand own.now)) text.new }
 {
-    push_filled(text, "  # [label=\"", &[strand as u64])?;
-    push_lines(text, lines)?;
-    push_words(text, "\"];\n")
+    let Ok(lines) = node_lines(alloc, names, strand, own) else {
+        return text.fail();
+    };
+    text.push_filled("  # [label=\"", &[strand as u64]);
+    push_lines(text, lines.as_slice());
+    text.push_words("\"];\n");
 }
 
 /// Adds strands, each with its own of the accesses.
 fn push_boxes<A: Allocator + Copy>(
     alloc: A,
-    text: &mut Vec<u8, A>,
+    text: &mut DrawingText<A>,
     names: &Names<'_, A>,
     strands: &[usize],
     accesses: &[Access],
-) -> Result<(), AllocError>
+)
     requires numbered { IsTrue (is_numbered 0 names.now.mems.now) }
-    ensures { OnOk result (text.new.items ≡ text.old.items ++ boxes_text (naming_of names.now) strands.now accesses.now) }
+    ensures { Adds text.old (boxes_text (naming_of names.now) strands.now accesses.now) text.new }
 {
     let mut rest = accesses;
     for strand in strands {
         let (own, others) = rest.split_at(own_of(*strand, rest));
-        let lines = node_lines(alloc, names, *strand, own)?;
-        push_box(text, *strand, lines.as_slice())?;
+        push_box(alloc, text, names, *strand, own);
         rest = others;
     }
-    Ok(())
 }
 
 /// The word of a kind of edge.
@@ -96,108 +91,65 @@ pub fn word_of(kind: EdgeKind) -> &'static str
     }
 }
 
-/// Adds an edge.
-fn push_edge<A: Allocator>(text: &mut Vec<u8, A>, edge: &Edge) -> Result<(), AllocError>
-    ensures { OnOk result (text.new.items ≡ text.old.items ++ edge_text edge.now) }
-{
-    let ends = [u64::from(edge.from), u64::from(edge.to)];
-    push_filled(text, "  # -> # [label=\"", &ends)?;
-    push_words(text, word_of(edge.kind))?;
-    push_words(text, "\"];\n")
-}
-
 /// Adds edges.
-fn push_edges<A: Allocator>(text: &mut Vec<u8, A>, edges: &[Edge]) -> Result<(), AllocError>
-    ensures { OnOk result (text.new.items ≡ text.old.items ++ flat_map edge_text edges.now) }
+fn push_edges<A: Allocator>(text: &mut DrawingText<A>, edges: &[Edge])
+    ensures { Adds text.old (flat_map edge_text edges.now) text.new }
 {
     for edge in edges {
-        push_edge(text, edge)?;
+        let ends = [u64::from(edge.from), u64::from(edge.to)];
+        text.push_filled("  # -> # [label=\"", &ends);
+        text.push_words(word_of(edge.kind));
+        text.push_words("\"];\n");
     }
-    Ok(())
-}
-
-/// The end of a race.
-fn red() -> &'static str
-    ensures { result.now ≡ red_text }
-{
-    "\", color=red, fontcolor=red, constraint=false];\n"
-}
-
-/// Adds a race, beside which this is written.
-fn push_arc<A: Allocator>(text: &mut Vec<u8, A>, race: &Race, label: &str) -> Result<(), AllocError>
-    ensures { OnOk result (text.new.items
-        ≡ text.old.items ++ (codes "  " ++ decimal race.now.witness.strand ++ codes " -> " ++ decimal race.now.request.strand ++
-        codes " [label=\"" ++ escaped label.now ++ red_text)) }
-{
-    let ends = [
-        u64::from(race.witness.strand),
-        u64::from(race.request.strand),
-    ];
-    push_filled(text, "  # -> # [label=\"", &ends)?;
-    push_escaped(text, label)?;
-    push_words(text, red())
 }
 
 /// Adds a race.
 fn push_race<A: Allocator + Copy>(
     alloc: A,
-    text: &mut Vec<u8, A>,
+    text: &mut DrawingText<A>,
     names: &Names<'_, A>,
     race: &Race,
-) -> Result<(), AllocError>
+)
     requires numbered { IsTrue (is_numbered 0 names.now.mems.now) }
-    ensures { OnOk result (text.new.items ≡ text.old.items ++ arc_text (naming_of names.now) race.now) }
+    ensures { Adds text.old (arc_text (naming_of names.now) race.now) text.new }
 {
-    let label = race_label(alloc, names, race)?;
-    push_arc(text, race, label.as_str())
+    let Ok(label) = race_label(alloc, names, race) else {
+        return text.fail();
+    };
+    let ends = [
+        u64::from(race.witness.strand),
+        u64::from(race.request.strand),
+    ];
+    text.push_filled("  # -> # [label=\"", &ends);
+    push_escaped(text, label.as_str());
+    text.push_words("\", color=red, fontcolor=red, constraint=false];\n");
 }
 
 /// Adds races.
 fn push_races<A: Allocator + Copy>(
     alloc: A,
-    text: &mut Vec<u8, A>,
+    text: &mut DrawingText<A>,
     names: &Names<'_, A>,
     races: &[Race],
-) -> Result<(), AllocError>
+)
     requires numbered { IsTrue (is_numbered 0 names.now.mems.now) }
-    ensures { OnOk result (text.new.items ≡ text.old.items ++ flat_map (arc_text (naming_of names.now)) races.now) }
+    ensures { Adds text.old (flat_map (arc_text (naming_of names.now)) races.now) text.new }
 {
     for race in races {
-        push_race(alloc, text, names, race)?;
+        push_race(alloc, text, names, race);
     }
-    Ok(())
 }
 
 /// Adds what was recorded.
-fn push_heading<A: Allocator>(text: &mut Vec<u8, A>, runs: &[String<A>]) -> Result<(), AllocError>
-    ensures { OnOk result (text.new.items ≡ text.old.items ++ heading_text (map string_bytes runs.now)) }
+fn push_heading<A: Allocator>(text: &mut DrawingText<A>, runs: &[String<A>])
+    ensures { Adds text.old (heading_text (map string_bytes runs.now)) text.new }
 {
     if runs.is_empty() {
-        return Ok(());
+        return;
     }
-    push_words(text, "  labelloc=t;\n  label=\"")?;
-    push_lines(text, runs)?;
-    push_words(text, "\";\n")
-}
-
-/// Adds a drawing.
-fn push_graph<A: Allocator + Copy>(
-    alloc: A,
-    text: &mut Vec<u8, A>,
-    names: &Names<'_, A>,
-    drawing: &Drawing<A>,
-) -> Result<(), AllocError>
-    requires numbered { IsTrue (is_numbered 0 names.now.mems.now) }
-    ensures { OnOk result (text.new.items ≡ text.old.items ++ dot_text (naming_of names.now) drawing.now) }
-{
-    let strands = drawing.strands.as_slice();
-    let accesses = drawing.accesses.as_slice();
-    push_words(text, "digraph trace {\n")?;
-    push_heading(text, names.notes.runs())?;
-    push_boxes(alloc, text, names, strands, accesses)?;
-    push_edges(text, drawing.edges.as_slice())?;
-    push_races(alloc, text, names, drawing.races.as_slice())?;
-    push_words(text, "}\n")
+    text.push_words("  labelloc=t;\n  label=\"");
+    push_lines(text, runs);
+    text.push_words("\";\n");
 }
 
 /// The text of a drawing in Graphviz's language: above the graph what was recorded, a node for each strand, an edge for each edge of the
@@ -210,7 +162,18 @@ pub fn dot_text<A: Allocator + Copy>(
     requires numbered { IsTrue (is_numbered 0 names.now.mems.now) }
     ensures { IfOk result (λ text. text.items ≡ dot_text (naming_of names.now) drawing.now) }
 {
-    let mut text = Vec::new(alloc);
-    push_graph(alloc, &mut text, names, drawing)?;
-    Ok(text)
+    let mut text = DrawingText::new(alloc);
+    text.push_words("digraph trace {\n");
+    push_heading(&mut text, names.notes.runs());
+    push_boxes(
+        alloc,
+        &mut text,
+        names,
+        drawing.strands.as_slice(),
+        drawing.accesses.as_slice(),
+    );
+    push_edges(&mut text, drawing.edges.as_slice());
+    push_races(alloc, &mut text, names, drawing.races.as_slice());
+    text.push_words("}\n");
+    text.end()
 }

@@ -1,13 +1,13 @@
 //! What is written beside the strands and the races of a drawing.
 
-ghost use Rattle.std.specs.Prelude.{◌≡◌, ◌++◌, ◌∷◌, ◌≤◌, ℕ, List, [], IfOk, OnOk, IsTrue, decimal, length, map, take, string_bytes, unwrap_or};
+ghost use Rattle.std.specs.Prelude.{◌≡◌, ◌++◌, ◌∷◌, ◌≤◌, ℕ, List, [], IfOk, OnOk, IsTrue, decimal, length, map, string_bytes, unwrap_or};
 ghost use Rattle.std.specs.Option.{option_map};
 ghost use Rattle.trace_text.specs.Shapes.{is_numbered};
 ghost use Rattle.trace_notes.specs.Notes.{noted_text};
 ghost use Rattle.trace_notes.specs.Places.{place_parts};
 ghost use Rattle.dag_drawing.specs.Texts.{kind_text, outcome_text, rule_text, count_own};
 ghost use Rattle.dag_drawing.specs.Labels.{naming_of, plain_name, place_of, site_text, access_line, first_place, function_text};
-ghost use Rattle.dag_drawing.specs.Labels.{head_line, most_told, rest_lines, node_lines, race_label};
+ghost use Rattle.dag_drawing.specs.Labels.{rest_lines, node_lines, race_label};
 
 use crate::drawing::{Access, Race};
 use access_table::{Kind, asked_by, rule_word, word};
@@ -196,20 +196,6 @@ fn add_line<A: Allocator>(
     Ok(())
 }
 
-/// Adds the first line of a strand.
-fn add_head<A: Allocator + Copy>(
-    alloc: A,
-    lines: &mut Vec<String<A>, A>,
-    names: &Names<'_, A>,
-    strand: usize,
-    own: &[Access],
-) -> Result<(), AllocError>
-    ensures { OnOk result (map string_bytes lines.new.items ≡ map string_bytes lines.old.items ++ head_line (naming_of names.now) strand own.now ∷ []) }
-{
-    let place = first_place(names, own);
-    add_line(lines, line_at(alloc, strand, place))
-}
-
 /// Adds the lines of accesses.
 fn add_accesses<A: Allocator + Copy>(
     alloc: A,
@@ -242,18 +228,6 @@ fn add_rest<A: Allocator + Copy>(
     }
 }
 
-/// The accesses that are told.
-fn first_accesses(own: &[Access]) -> &[Access]
-    ensures { result.now ≡ take most_told own.now }
-{
-    if own.len() > MOST_TOLD {
-        let (told, _) = own.split_at(MOST_TOLD);
-        told
-    } else {
-        own
-    }
-}
-
 /// Adds the lines of a strand with its accesses.
 fn add_lines<A: Allocator + Copy>(
     alloc: A,
@@ -265,8 +239,10 @@ fn add_lines<A: Allocator + Copy>(
     requires numbered { IsTrue (is_numbered 0 names.now.mems.now) }
     ensures { OnOk result (map string_bytes lines.new.items ≡ map string_bytes lines.old.items ++ node_lines (naming_of names.now) strand own.now) }
 {
-    add_head(alloc, lines, names, strand, own)?;
-    add_accesses(alloc, lines, names, first_accesses(own))?;
+    let place = first_place(names, own);
+    add_line(lines, line_at(alloc, strand, place))?;
+    let (told, _) = own.split_at(MOST_TOLD.min(own.len()));
+    add_accesses(alloc, lines, names, told)?;
     add_rest(alloc, lines, own.len())
 }
 

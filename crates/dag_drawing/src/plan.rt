@@ -1,9 +1,9 @@
 //! Where the boxes of a picture stand.
 
-ghost use Rattle.std.specs.Prelude.{◌≡◌, ◌+◌, ◌-◌, ◌*◌, ◌<◌, ◌≤◌, ◌^◌, max, IfOk, IsTrue, length, map, replicate, slice_index_or, slice_set, string_bytes};
+ghost use Rattle.std.specs.Prelude.{◌≡◌, ◌+◌, ◌-◌, ◌*◌, ◌<◌, ◌≤◌, ◌^◌, IfOk, IsTrue, map, replicate, slice_index_or, slice_set, string_bytes};
 ghost use Rattle.trace_text.specs.Shapes.{is_numbered};
-ghost use Rattle.dag_drawing.specs.Labels.{naming_of, node_lines, title_lines};
-ghost use Rattle.dag_drawing.specs.Plans.{stepped, capped, deepened, depths_by, counted, counts_by, columns_by, greatest, longest, longest_line, most_lines};
+ghost use Rattle.dag_drawing.specs.Labels.{naming_of};
+ghost use Rattle.dag_drawing.specs.Plans.{stepped, capped, depths_by, counts_by, columns_by, greatest, longest, longest_line, most_lines};
 ghost use Rattle.dag_drawing.specs.Plans.{measures_by, plan_of, plan, last_of, left_at, middle_at, top_at, width_of, height_of};
 
 use crate::drawing::{Access, Drawing, Edge};
@@ -110,16 +110,7 @@ fn put<A: Allocator>(numbers: &mut Vec<u32, A>, at: usize, number: u32)
     }
 }
 
-/// Puts what an edge leads to on a level below that which it comes from.
-fn deepen<A: Allocator>(depths: &mut Vec<u32, A>, edge: &Edge)
-    ensures { depths.new.items ≡ deepened depths.old.items edge.now }
-{
-    let to = number_at(depths.as_slice(), edge.to as usize);
-    let below = next_number(number_at(depths.as_slice(), edge.from as usize));
-    put(depths, edge.to as usize, to.max(below));
-}
-
-/// The levels of strands, by their numbers.
+/// The levels of strands, by their numbers: what an edge leads to is on a level below that which it comes from.
 fn depths_of<A: Allocator + Copy>(
     alloc: A,
     size: usize,
@@ -129,30 +120,15 @@ fn depths_of<A: Allocator + Copy>(
 {
     let mut depths = vec![in alloc; 0u32; size]?;
     for edge in edges {
-        deepen(&mut depths, edge);
+        let to = number_at(depths.as_slice(), edge.to as usize);
+        let below = next_number(number_at(depths.as_slice(), edge.from as usize));
+        put(&mut depths, edge.to as usize, to.max(below));
     }
     Ok(depths)
 }
 
-/// Puts a strand behind those of its level.
-fn add_to_level<A: Allocator>(
-    depths: &[u32],
-    counts: &mut Vec<u32, A>,
-    columns: &mut Vec<u32, A>,
-    strand: usize,
-)
-    ensures counts { counts.new.items ≡ counted depths.now counts.old.items strand }
-    ensures columns { columns.new.items
-        ≡ slice_set columns.old.items strand (slice_index_or counts.old.items (slice_index_or depths.now strand 0) 0) }
-{
-    let level = number_at(depths, strand) as usize;
-    let column = number_at(counts.as_slice(), level);
-    put(counts, level, next_number(column));
-    put(columns, strand, column);
-}
-
 /// Puts strands behind those of their levels.
-fn add_all_to_levels<A: Allocator>(
+fn add_to_levels<A: Allocator>(
     depths: &[u32],
     counts: &mut Vec<u32, A>,
     columns: &mut Vec<u32, A>,
@@ -162,7 +138,10 @@ fn add_all_to_levels<A: Allocator>(
     ensures columns { columns.new.items ≡ columns_by depths.now counts.old.items columns.old.items strands.now }
 {
     for strand in strands {
-        add_to_level(depths, counts, columns, *strand);
+        let level = number_at(depths, *strand) as usize;
+        let column = number_at(counts.as_slice(), level);
+        put(counts, level, next_number(column));
+        put(columns, *strand, column);
     }
 }
 
@@ -197,25 +176,6 @@ struct Sizes {
     lines: usize,
 }
 
-/// These sizes, or those of what is written of a strand where they are larger.
-fn larger<A: Allocator + Copy>(
-    alloc: A,
-    names: &Names<'_, A>,
-    sizes: Sizes,
-    strand: usize,
-    own: &[Access],
-) -> Result<Sizes, AllocError>
-    requires numbered { IsTrue (is_numbered 0 names.now.mems.now) }
-    ensures length { IfOk result (λ larger. larger.length ≡ longest sizes.length (node_lines (naming_of names.now) strand own.now)) }
-    ensures lines { IfOk result (λ larger. larger.lines ≡ max sizes.lines (length (node_lines (naming_of names.now) strand own.now))) }
-{
-    let lines = node_lines(alloc, names, strand, own)?;
-    Ok(Sizes {
-        length: longest(sizes.length, lines.as_slice()),
-        lines: sizes.lines.max(lines.len()),
-    })
-}
-
 /// The sizes of what is written of strands.
 fn sizes_of<A: Allocator + Copy>(
     alloc: A,
@@ -234,7 +194,11 @@ fn sizes_of<A: Allocator + Copy>(
     let mut rest = accesses;
     for strand in strands {
         let (own, others) = rest.split_at(own_of(*strand, rest));
-        sizes = larger(alloc, names, sizes, *strand, own)?;
+        let lines = node_lines(alloc, names, *strand, own)?;
+        sizes = Sizes {
+            length: longest(sizes.length, lines.as_slice()),
+            lines: sizes.lines.max(lines.len()),
+        };
         rest = others;
     }
     Ok(sizes)
@@ -281,7 +245,7 @@ pub fn layout_of<A: Allocator + Copy>(
     let depths = depths_of(alloc, size, drawing.edges.as_slice())?;
     let mut counts = vec![in alloc; 0u32; size]?;
     let mut columns = vec![in alloc; 0u32; size]?;
-    add_all_to_levels(depths.as_slice(), &mut counts, &mut columns, strands);
+    add_to_levels(depths.as_slice(), &mut counts, &mut columns, strands);
     Ok(Layout {
         widest: greatest(counts.as_slice()),
         deepest: greatest(depths.as_slice()),
@@ -312,14 +276,6 @@ impl<A: Allocator> Layout<A> {
         let column = number_at(self.columns.as_slice(), strand);
         let steps = u64::from(self.widest.saturating_sub(count)) + 2 * u64::from(column);
         16 + scale(steps, self.measures.across)
-    }
-
-    /// The width of a box.
-    pub fn box_width(&self) -> u64
-        ensures { result ≡ 2 * (plan_of self.now).half }
-    {
-        let half = self.measures.half;
-        2 * u64::from(half)
     }
 
     /// The middle of a strand's box.

@@ -76,38 +76,6 @@ impl<A: Allocator + Copy> Walk<A> {
         })
     }
 
-    /// Adds the strands of a spawn, and its join where it opens a block.
-    fn place(&mut self, strand: u32, spawned: Spawned) -> Result<(), AllocError>
-        requires { strand < length self.now.blocks.items }
-        ensures begun { OnOk result (self.new.begun.items ≡ self.old.begun.items ++ marks_of spawned.first) }
-        ensures blocks { OnOk result (self.new.blocks.items
-            ≡ self.old.blocks.items ++ blocks_of spawned.first spawned.join (slice_index_or self.old.blocks.items strand None)) }
-        ensures edges { self.new.edges.items ≡ self.old.edges.items }
-    {
-        let outer = self.blocks[strand as usize];
-        add_marks(&mut self.begun, spawned.first)?;
-        add_blocks(&mut self.blocks, spawned, outer)
-    }
-
-    /// Adds the edges of a spawn.
-    fn fork(&mut self, strand: u32, spawned: Spawned) -> Result<(), AllocError>
-        ensures begun { self.new.begun.items ≡ self.old.begun.items }
-        ensures blocks { self.new.blocks.items ≡ self.old.blocks.items }
-        ensures edges { OnOk result (self.new.edges.items ≡ self.old.edges.items ++ forks strand spawned.child spawned.next) }
-    {
-        let child = Edge {
-            kind: EdgeKind::Child,
-            from: strand,
-            to: spawned.child,
-        };
-        let next = Edge {
-            kind: EdgeKind::Next,
-            from: strand,
-            to: spawned.next,
-        };
-        self.edges.extend_from_slice(&[child, next])
-    }
-
     /// Adds the edge from a strand that ends to the join of the block round it.
     fn arrive(&mut self, strand: u32) -> Result<(), AllocError>
         requires { strand < length self.now.blocks.items }
@@ -129,16 +97,6 @@ impl<A: Allocator + Copy> Walk<A> {
         }
     }
 
-    /// Marks a join as begun.
-    fn begin(&mut self, join: u32)
-        requires { join < length self.now.begun.items }
-        ensures begun { self.new.begun.items ≡ slice_set self.old.begun.items join true }
-        ensures blocks { self.new.blocks.items ≡ self.old.blocks.items }
-        ensures edges { self.new.edges.items ≡ self.old.edges.items }
-    {
-        self.begun[join as usize] = true;
-    }
-
     /// Adds the strands and the edges of a spawn, and its join where it opens a block.
     fn spawn(&mut self, strand: u32, spawned: Spawned) -> Result<(), AllocError>
         requires { strand < length self.now.blocks.items }
@@ -147,8 +105,20 @@ impl<A: Allocator + Copy> Walk<A> {
             ≡ self.old.blocks.items ++ blocks_of spawned.first spawned.join (slice_index_or self.old.blocks.items strand None)) }
         ensures edges { OnOk result (self.new.edges.items ≡ self.old.edges.items ++ forks strand spawned.child spawned.next) }
     {
-        self.place(strand, spawned)?;
-        self.fork(strand, spawned)
+        let outer = self.blocks[strand as usize];
+        add_marks(&mut self.begun, spawned.first)?;
+        add_blocks(&mut self.blocks, spawned, outer)?;
+        let child = Edge {
+            kind: EdgeKind::Child,
+            from: strand,
+            to: spawned.child,
+        };
+        let next = Edge {
+            kind: EdgeKind::Next,
+            from: strand,
+            to: spawned.next,
+        };
+        self.edges.extend_from_slice(&[child, next])
     }
 
     /// Marks a join as begun, and adds the edge from the strand that began it.
@@ -160,7 +130,7 @@ impl<A: Allocator + Copy> Walk<A> {
         ensures edges { OnOk result (self.new.edges.items
             ≡ self.old.edges.items ++ arrival strand (slice_index_or self.old.blocks.items strand None)) }
     {
-        self.begin(join);
+        self.begun[join as usize] = true;
         self.arrive(strand)
     }
 

@@ -1,9 +1,12 @@
 use Rattle.std.proofs.Common.{◌∙◌, sym}
-use Rattle.dag_drawing.proofs.Pushed.{on_ok, heading_pushed}
+use Rattle.text_buffers.proofs.Builders.{three_adds}
+use Rattle.dag_drawing.proofs.Pushed.{heading_adds, no_heading}
 use Rattle.dag_drawing.proofs.dot.push_heading.Goals as goal
+
+pub returns-then-is_empty : goal.returns-then-is_empty
+returns-then-is_empty g c = no_heading c.args.runs.now _ (sym c.is_empty.ensures ∙ c.if-is_empty.true)
 
 pub returns : goal.returns
 returns g c =
-    on_ok c.push_words-2.result _ _
-    (heading_pushed c.args.runs.now _ _ _ _ (sym c.is_empty.ensures ∙ c.if-is_empty.false) c.in_ok-push_words.ensures.added
-    c.in_ok-push_lines.ensures) c.push_words-2.ensures.added
+    heading_adds c.args.runs.now _ _ (sym c.is_empty.ensures ∙ c.if-is_empty.false)
+    (three_adds _ _ _ _ _ _ _ c.push_words.ensures c.push_lines.ensures c.push_words-2.ensures)

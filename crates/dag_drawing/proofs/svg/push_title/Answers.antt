@@ -1,9 +1,15 @@
 use Rattle.std.proofs.Common.{◌∙◌, sym}
-use Rattle.dag_drawing.proofs.Pushed.{on_ok, title_pushed}
+use Rattle.text_buffers.proofs.Builders.{three_adds}
+use Rattle.dag_drawing.specs.Plans.{most_title_lines}
+use Rattle.dag_drawing.proofs.Pushed.{title_adds, no_title, title_shown}
 use Rattle.dag_drawing.proofs.svg.push_title.Goals as goal
+
+pub returns-then-is_empty : goal.returns-then-is_empty
+returns-then-is_empty g c = no_title c.args.runs.now _ (sym c.is_empty.ensures ∙ c.if-is_empty.true)
 
 pub returns : goal.returns
 returns g c =
-    on_ok c.push_words-2.result _ _
-    (title_pushed c.args.runs.now _ _ _ _ (sym c.is_empty.ensures ∙ c.if-is_empty.false) c.in_ok-push_words.ensures.added
-    (rw c.first_lines.ensures at c.in_ok-push_lines.ensures)) c.push_words-2.ensures.added
+    title_adds c.args.runs.now _ _ (sym c.is_empty.ensures ∙ c.if-is_empty.false)
+    (three_adds _ _ _ _ _ _ _ c.push_words.ensures
+    (rw (title_shown most_title_lines c.args.runs.now _ (rw (c.min.ensures, c.from.ensures) at c.split_at.ensures.front)) at c.push_lines.ensures)
+    c.push_words-2.ensures)

@@ -2,7 +2,7 @@ use Rattle.std.proofs.Common.{arith, refl}
 use Rattle.std.proofs.lemmas.Grind.{common_steps}
 use Rattle.dag_drawing.specs.Plans.{counts_by, columns_by}
 use Rattle.dag_drawing.proofs.Loops.{at_last}
-use Rattle.dag_drawing.proofs.plan.add_all_to_levels.Goals as goal
+use Rattle.dag_drawing.proofs.plan.add_to_levels.Goals as goal
 
 pub loop-strand-preserved : goal.loop-strand-preserved
 loop-strand-preserved g c = grind (arith, common_steps)

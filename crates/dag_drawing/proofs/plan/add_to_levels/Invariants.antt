@@ -1,6 +1,6 @@
 use Rattle.std.proofs.Common.{◌≡◌, drop}
 use Rattle.dag_drawing.specs.Plans.{counts_by, columns_by}
-use Rattle.dag_drawing.proofs.plan.add_all_to_levels.Given as goal
+use Rattle.dag_drawing.proofs.plan.add_to_levels.Given as goal
 
 -- the counts and the columns after the strands that are left are those after all
 abbrev pub invariant-loop-strand : goal.invariant-loop-strand
