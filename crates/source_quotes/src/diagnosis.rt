@@ -28,30 +28,21 @@ pub(crate) struct Diagnosis {
     pub(crate) part: Part,
 }
 
-/// Whether a line may hold a byte.
-fn may_stand(byte: u8) -> bool {
-    byte == b'\t' || (b' ' <= byte && byte <= b'~')
-}
-
 /// What is wrong with a line that has a byte that no line may hold.
 fn bad_byte(scene: &Scene<'_, '_>) -> (ByteMistake, Part) {
     let line = scene.line;
-    let at = line.iter().position(|byte| !may_stand(*byte)).unwrap_or(0);
-    let mistake = match line {
-        [0xef, 0xbb, 0xbf, ..] if scene.number == 1 => ByteMistake::OrderMark,
-        [0xff, 0xfe, ..] | [0xfe, 0xff, ..] if scene.number == 1 => ByteMistake::Wide,
-        _ => match line.get(at) {
-            Some(b'\r') => ByteMistake::Return,
-            Some(byte) if *byte < b' ' || *byte == 0x7f => ByteMistake::Control,
-            _ => ByteMistake::Other,
-        },
+    let at = line
+        .iter()
+        .position(|byte| !matches!(*byte, b'\t' | b' '..=b'~'))
+        .unwrap_or(0);
+    let mistake = match (scene.number, line, line.get(at)) {
+        (1, [0xef, 0xbb, 0xbf, ..], _) => ByteMistake::OrderMark,
+        (1, [0xff, 0xfe, ..] | [0xfe, 0xff, ..], _) => ByteMistake::Wide,
+        (_, _, Some(b'\r')) => ByteMistake::Return,
+        (_, _, Some(0..=0x1f | 0x7f)) => ByteMistake::Control,
+        _ => ByteMistake::Other,
     };
     (mistake, Part::Byte(at))
-}
-
-/// Whether a text is C or C++: such a source includes headers.
-fn is_source(scene: &Scene<'_, '_>) -> bool {
-    scene.lines.iter().any(|line| line.starts_with(b"#include"))
 }
 
 /// What stands in place of a header.
@@ -66,40 +57,27 @@ fn before_header(scene: &Scene<'_, '_>) -> (HeaderMistake, Part) {
     }
 }
 
-/// What is wrong with a first line that is no header.
+/// What is wrong with a first line that is no header. A text that includes headers is C or C++.
 fn bad_header(scene: &Scene<'_, '_>) -> (HeaderMistake, Part) {
     match scene.words {
         ["cilk", "1" | "2", _, ..] => (HeaderMistake::Long, Part::Onward(2)),
         ["cilk", _, ..] => (HeaderMistake::Version, Part::Word(1)),
         ["cilk"] => (HeaderMistake::Version, Part::Statement),
-        _ if is_source(scene) => (HeaderMistake::Source, before_header(scene).1),
+        _ if scene.lines.iter().any(|line| line.starts_with(b"#include")) => {
+            (HeaderMistake::Source, before_header(scene).1)
+        }
         _ => before_header(scene),
     }
 }
 
-/// What is wrong behind the last line, where a function or an `if` is open.
-fn missing_end(scene: &Scene<'_, '_>) -> NestingMistake {
-    let lines = scene.lines;
-    match open_at(lines) {
-        Some(place) if first_words(lines[place]).0 == "if" => NestingMistake::OpenIf,
-        Some(_) => NestingMistake::OpenFunction,
-        None => NestingMistake::Other,
-    }
-}
-
-/// Which of two mistakes an `else` is.
-fn bad_else(scene: &Scene<'_, '_>) -> NestingMistake {
-    let before = scene.before();
-    match open_at(before) {
-        Some(place) if first_words(before[place]).0 == "if" => NestingMistake::SecondElse,
-        _ => NestingMistake::Else,
-    }
-}
-
-/// What is wrong with a line that may not stand where it does.
+/// What is wrong with a line that may not stand where it does, or behind the last line, where a function or an `if` is open.
 fn bad_nesting(scene: &Scene<'_, '_>) -> NestingMistake {
     if scene.number as usize > scene.lines.len() {
-        return missing_end(scene);
+        return match open_at(scene.lines) {
+            Some((_, "if")) => NestingMistake::OpenIf,
+            Some(_) => NestingMistake::OpenFunction,
+            None => NestingMistake::Other,
+        };
     }
     match scene.word(0) {
         "mem" | "reducer" => match scene.meant {
@@ -107,7 +85,10 @@ fn bad_nesting(scene: &Scene<'_, '_>) -> NestingMistake {
             Meant::Trace => NestingMistake::TraceDeclaration,
         },
         "func" => NestingMistake::Function,
-        "else" => bad_else(scene),
+        "else" => match open_at(scene.before()) {
+            Some((_, "if")) => NestingMistake::SecondElse,
+            _ => NestingMistake::Else,
+        },
         "end" => NestingMistake::End,
         _ => NestingMistake::Statement,
     }
@@ -115,15 +96,16 @@ fn bad_nesting(scene: &Scene<'_, '_>) -> NestingMistake {
 
 /// How many lines have words behind the first `func`.
 fn statements_among(lines: &[&[u8]]) -> usize {
-    let begin = lines.iter().position(|line| first_words(line).0 == "func");
-    match begin {
-        Some(begin) => lines[begin..]
-            .iter()
-            .filter(|line| !first_words(line).0.is_empty())
-            .count()
-            .saturating_sub(1),
-        None => 0,
+    let mut is_begun = false;
+    let mut count = 0_usize;
+    for line in lines {
+        let first = first_words(line).0;
+        if is_begun && !first.is_empty() {
+            count = count.saturating_add(1);
+        }
+        is_begun |= first == "func";
     }
+    count
 }
 
 /// How many `if` are open behind these lines of a function.

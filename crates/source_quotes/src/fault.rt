@@ -5,34 +5,19 @@ ghost use Rattle.text_buffers.specs.Builders.{Adds};
 ghost use Rattle.text_words.specs.Text.{lines};
 ghost use Rattle.source_quotes.specs.Lines.{line_in};
 ghost use Rattle.source_quotes.specs.Parts.{IsWithin};
-ghost use Rattle.source_quotes.specs.FaultTexts.{fault_quote, fault_text, TellsFault};
+ghost use Rattle.source_quotes.specs.FaultTexts.{fault_text, TellsFault};
 
 use crate::diagnosis::diagnose;
 use crate::hint::hint;
 use crate::look::{Look, Paint, push_painted, push_place, push_quote, push_sign_below};
 use crate::meant::Meant;
-use crate::mistake::{Mistake, title_words};
+use crate::mistake::{Mistake, title_and_help};
 use crate::part::{Span, span_of};
 use crate::scene::{Scene, words_of};
 use crate::source::Source;
 use std::alloc::{AllocError, Global};
 use text_buffers::TextBuilder;
 use text_words::Cause;
-
-/// Adds the faulty line, with a sign below a part of it.
-fn push_fault_quote(
-    text: &mut TextBuilder,
-    look: Look,
-    source: &Source<'_>,
-    number: u32,
-    span: Span,
-)
-    requires { IsWithin span (line_in source.now number) }
-    ensures { Adds text.old (fault_quote look source.now number span) text.new }
-{
-    push_quote(text, look, source, number);
-    push_sign_below(text, look, Paint::Red, source.line(number), span, b'^');
-}
 
 /// Adds the mistake, the place, the faulty line with a sign below the part that is wrong, and what may help.
 fn push_fault(
@@ -50,10 +35,11 @@ fn push_fault(
 {
     push_painted(text, look, Paint::Red, "error");
     text.push_words(": ");
-    text.push_words(title_words(mistake));
+    text.push_words(title_and_help(mistake).0);
     text.push_words("\n");
     push_place(text, look, file, number);
-    push_fault_quote(text, look, source, number, span);
+    push_quote(text, look, source, number);
+    push_sign_below(text, look, Paint::Red, source.line(number), span, b'^');
     text.push_words("\n");
     text.push_bytes(help);
 }

@@ -62,6 +62,19 @@ impl Form {
             Some(behind) => self.optional.get(behind).copied(),
         }
     }
+
+    /// How many words a line has at most, its first word too.
+    pub(crate) fn most(self) -> usize {
+        self.wanted
+            .len()
+            .saturating_add(self.optional.len())
+            .saturating_add(1)
+    }
+
+    /// Whether a line may have so many words: all or none of what may stand at the end.
+    pub(crate) fn takes(self, count: usize) -> bool {
+        count == self.most() || count == self.wanted.len().saturating_add(1)
+    }
 }
 
 /// Declarations, which programs and traces have alike.
@@ -269,12 +282,14 @@ pub(crate) fn begins_behind(meant: Meant, word: &str) -> bool {
     form_among(forms_behind(meant), word).is_some()
 }
 
-/// Offers each first word.
-pub(crate) fn offer_firsts(meant: Meant, nearest: &mut Nearest<'_, 'static>) {
+/// The first word that comes nearest to a word, where one is near.
+pub(crate) fn nearest_first(meant: Meant, word: &str) -> Option<&'static str> {
+    let mut nearest = Nearest::to(word);
     for form in DECLARATIONS {
         nearest.offer(form.first);
     }
     for form in forms_behind(meant) {
         nearest.offer(form.first);
     }
+    nearest.nearest()
 }

@@ -5,16 +5,15 @@ use crate::mistake::UnknownMistake;
 use crate::near::Nearest;
 use crate::notes::Notes;
 use crate::part::Part;
-use crate::scene::{Kind, Scene, declared_at, first_words, kind_of, named_at, register_of};
+use crate::scene::{Kind, Scene, declared_at, first_words, named_at, register_of};
 use crate::shape::element;
 
 /// Notes what a name is declared as, and where.
 pub(crate) fn note_declared(notes: &mut Notes, scene: &Scene<'_, '_>, name: &str) {
-    let lines = scene.lines;
-    let Some(place) = declared_at(lines, name) else {
+    let Some((place, kind)) = declared_at(scene.lines, name) else {
         return;
     };
-    let declared = match kind_of(lines[place]) {
+    let declared = match kind {
         Kind::Cell => " is one cell, declared at line ",
         Kind::Array(_) => " is an array, declared at line ",
         Kind::Reducer => " is a reducer, declared at line ",
@@ -35,33 +34,16 @@ pub(crate) fn note_array(notes: &mut Notes, scene: &Scene<'_, '_>, name: &str) {
     }
 }
 
-/// Which names may stand in a place.
-#[derive(Clone, Copy)]
-enum Sort {
-    /// Cells and arrays.
-    Memory,
-    /// Reducers.
-    Reducer,
-    /// Functions.
-    Function,
-}
-
-/// The first word of the lines that declare such names.
-fn first_of(sort: Sort) -> &'static str {
-    match sort {
-        Sort::Memory => "mem",
-        Sort::Reducer => "reducer",
-        Sort::Function => "func",
-    }
-}
-
-/// The name of this sort that comes nearest to a word, where one is near.
-fn nearest_name<'a>(scene: &Scene<'_, 'a>, sort: Sort, word: &str) -> Option<&'a str> {
+/// The name that comes nearest to a word, where one is near, among those that lines with this keyword declare.
+pub(crate) fn nearest_name<'a>(
+    scene: &Scene<'_, 'a>,
+    keyword: &str,
+    word: &str,
+) -> Option<&'a str> {
     let mut nearest = Nearest::to(word);
-    let wanted = first_of(sort);
     for line in scene.lines {
         let (first, second, _) = first_words(line);
-        if first == wanted {
+        if first == keyword {
             nearest.offer(second);
         }
     }
@@ -80,27 +62,27 @@ fn nearest_register<'a>(scene: &Scene<'_, 'a>, word: &str) -> Option<&'a str> {
     nearest.nearest()
 }
 
-/// What to do where no name is near.
-fn sort_help(sort: Sort, meant: Meant) -> &'static str {
-    match (sort, meant) {
-        (Sort::Memory, Meant::Program) => "declare it before the first function, by `mem NAME`",
-        (Sort::Memory, Meant::Trace) => "declare it before the first request, by `mem NAME`",
-        (Sort::Reducer, Meant::Program) => {
+/// What to do where no name is near that lines with this keyword declare.
+fn declaring_help(keyword: &str, meant: Meant) -> &'static str {
+    match (keyword, meant) {
+        ("mem", Meant::Program) => "declare it before the first function, by `mem NAME`",
+        ("mem", Meant::Trace) => "declare it before the first request, by `mem NAME`",
+        ("reducer", Meant::Program) => {
             "declare it before the first function, by `reducer NAME MONOID`"
         }
-        (Sort::Reducer, Meant::Trace) => {
+        ("reducer", Meant::Trace) => {
             "declare it before the first request, by `reducer NAME MONOID`"
         }
-        (Sort::Function, _) => "add it: `func NAME PARAMETER`, statements, and `end`",
+        _ => "add it: `func NAME PARAMETER`, statements, and `end`",
     }
 }
 
-/// Notes the name of a sort that was meant, or how one is declared.
-fn note_sort(notes: &mut Notes, scene: &Scene<'_, '_>, sort: Sort, name: &str) {
+/// Notes the name that was meant of those that lines with this keyword declare, or how one is declared.
+fn note_name(notes: &mut Notes, scene: &Scene<'_, '_>, keyword: &str, name: &str) {
     note_declared(notes, scene, name);
-    match nearest_name(scene, sort, name) {
+    match nearest_name(scene, keyword, name) {
         Some(other) if other != name => notes.add_meant(other),
-        _ => notes.add_help(sort_help(sort, scene.meant)),
+        _ => notes.add_help(declaring_help(keyword, scene.meant)),
     }
 }
 
@@ -157,14 +139,6 @@ fn note_instead(notes: &mut Notes, scene: &Scene<'_, '_>, name: &str) {
     }
 }
 
-/// The name in the word of a cell, or the word itself.
-fn name_in(word: &str) -> &str {
-    match element(word) {
-        Some((name, _)) => name,
-        None => word,
-    }
-}
-
 /// Notes what to do where a single cell has an index.
 fn note_no_array(notes: &mut Notes, scene: &Scene<'_, '_>, name: &str) {
     note_declared(notes, scene, name);
@@ -175,12 +149,6 @@ fn note_no_array(notes: &mut Notes, scene: &Scene<'_, '_>, name: &str) {
     );
 }
 
-/// Notes what a name is declared as, and how such a thing is used.
-fn note_use(notes: &mut Notes, scene: &Scene<'_, '_>, name: &str, help: &str) {
-    note_declared(notes, scene, name);
-    notes.add_help(help);
-}
-
 /// Notes what is known of a name that is not declared as what its place wants.
 pub(crate) fn note_unknown(
     notes: &mut Notes,
@@ -188,33 +156,24 @@ pub(crate) fn note_unknown(
     mistake: UnknownMistake,
     part: Part,
 ) {
-    let name = name_in(scene.culprit(part));
+    let word = scene.culprit(part);
+    let name = match element(word) {
+        Some((name, _)) => name,
+        None => word,
+    };
     match mistake {
-        UnknownMistake::Other => notes.add_help("declare it, or name another one"),
+        UnknownMistake::Other => {}
         UnknownMistake::Register => note_register(notes, scene, name),
         UnknownMistake::Cell if is_turned(scene) => note_turned(notes, scene),
-        UnknownMistake::Cell => note_sort(notes, scene, Sort::Memory, name),
-        UnknownMistake::Reducer => note_sort(notes, scene, Sort::Reducer, name),
-        UnknownMistake::Function => note_sort(notes, scene, Sort::Function, name),
+        UnknownMistake::Cell => note_name(notes, scene, "mem", name),
+        UnknownMistake::Reducer => note_name(notes, scene, "reducer", name),
+        UnknownMistake::Function => note_name(notes, scene, "func", name),
         UnknownMistake::CellRead => note_read(notes, scene, "read", name),
         UnknownMistake::ReducerRead => note_read(notes, scene, "get", name),
         UnknownMistake::NoIndex => note_array(notes, scene, name),
         UnknownMistake::NoArray => note_no_array(notes, scene, name),
-        UnknownMistake::ReducerForCell => {
-            note_use(
-                notes,
-                scene,
-                name,
-                "a reducer is used by `update`, `put` and `get`",
-            );
-        }
-        UnknownMistake::CellForReducer => {
-            note_use(
-                notes,
-                scene,
-                name,
-                "a cell is used by `read`, `write` and `bump`",
-            );
+        UnknownMistake::ReducerForCell | UnknownMistake::CellForReducer => {
+            note_declared(notes, scene, name);
         }
         UnknownMistake::RegisterForCell => note_instead(notes, scene, name),
     }

@@ -1,6 +1,6 @@
 //! Notes about words of another shape than their places want, and about words that are missing or too much.
 
-use crate::form::{Wanted, form_of, offer_firsts};
+use crate::form::{Wanted, form_of, nearest_first};
 use crate::hint_names::note_array;
 use crate::meant::Meant;
 use crate::mistake::WordMistake;
@@ -17,14 +17,6 @@ pub(crate) fn note_form(notes: &mut Notes, scene: &Scene<'_, '_>) {
     }
 }
 
-/// What the place of a part of a line wants, where the part is a word.
-pub(crate) fn wanted_at(scene: &Scene<'_, '_>, part: Part) -> Option<Wanted> {
-    match (form_of(scene.meant, scene.word(0)), part) {
-        (Some(form), Part::Word(at)) => form.place(at),
-        _ => None,
-    }
-}
-
 /// Notes the range of a number in its place.
 pub(crate) fn note_range(notes: &mut Notes, wanted: Option<Wanted>) {
     notes.add_help(match wanted {
@@ -37,37 +29,25 @@ pub(crate) fn note_range(notes: &mut Notes, wanted: Option<Wanted>) {
     });
 }
 
-/// The first word that comes nearest to a word, where one is near.
-fn nearest_first(meant: Meant, word: &str) -> Option<&'static str> {
-    let mut nearest = Nearest::to(word);
-    offer_firsts(meant, &mut nearest);
-    nearest.nearest()
-}
-
-/// What the first words of lines are.
-fn firsts_help(meant: Meant) -> &'static str {
-    match meant {
-        Meant::Program => {
-            "begin with `let`, `read`, `write`, `bump`, `update`, `put`, `get`, `spawn`, `call`, `sync`, `if`, `else`, `end` or `pfor`, or declare by `mem`, `reducer` or `func`"
-        }
-        Meant::Trace => {
-            "begin with `spawn`, `call`, `sync`, `return`, `read`, `write`, `bump`, `update`, `put` or `get`, or declare by `mem` or `reducer`"
-        }
-    }
-}
-
 /// Notes the first word that was meant, in this kind of text or else in the other, or those that there are.
 fn note_first(notes: &mut Notes, meant: Meant, word: &str) {
-    if let Some(first) = nearest_first(meant, word) {
-        notes.add_meant(first);
-    } else if let Some(first) = nearest_first(meant.other(), word) {
-        let behind = match meant {
-            Meant::Program => "`, as in a trace?\n",
-            Meant::Trace => "`, as in a program?\n",
-        };
-        notes.add_help_with("did you mean `", first, behind);
-    } else {
-        notes.add_help(firsts_help(meant));
+    let (as_other, firsts) = match meant {
+        Meant::Program => (
+            "`, as in a trace?\n",
+            "begin with `let`, `read`, `write`, `bump`, `update`, `put`, `get`, `spawn`, `call`, `sync`, `if`, `else`, `end` or `pfor`, or declare by `mem`, `reducer` or `func`",
+        ),
+        Meant::Trace => (
+            "`, as in a program?\n",
+            "begin with `spawn`, `call`, `sync`, `return`, `read`, `write`, `bump`, `update`, `put` or `get`, or declare by `mem` or `reducer`",
+        ),
+    };
+    match (
+        nearest_first(meant, word),
+        nearest_first(meant.other(), word),
+    ) {
+        (Some(first), _) => notes.add_meant(first),
+        (None, Some(first)) => notes.add_help_with("did you mean `", first, as_other),
+        (None, None) => notes.add_help(firsts),
     }
 }
 
@@ -139,18 +119,16 @@ fn note_negative(notes: &mut Notes, scene: &Scene<'_, '_>, wanted: Option<Wanted
     }
 }
 
-/// The length of an array that was declared as in C, by what stands behind the bracket.
-fn length_in(behind: &str) -> &str {
-    let length = behind.strip_suffix(']').unwrap_or(behind);
-    if length.is_empty() { "LENGTH" } else { length }
-}
-
 /// Notes how an array is declared that was declared as in C.
 fn note_declaration(notes: &mut Notes, word: &str) {
     match word.split_once('[') {
         Some((name, behind)) => {
+            let length = match behind.strip_suffix(']').unwrap_or(behind) {
+                "" => "LENGTH",
+                length => length,
+            };
             notes.begin("help: write `mem ");
-            notes.add_three(name, " ", length_in(behind));
+            notes.add_three(name, " ", length);
             notes.add_words("`\n");
         }
         None => notes.add_help("write `mem NAME LENGTH`"),
@@ -171,19 +149,24 @@ fn note_operator(notes: &mut Notes, scene: &Scene<'_, '_>) {
 
 /// Notes a statement or a request in a text of the other kind.
 fn note_other_kind(notes: &mut Notes, scene: &Scene<'_, '_>) {
+    if scene.word(0) == "return" {
+        return notes.add_help("a function returns at its `end`");
+    }
+    let (kind, help) = match scene.meant {
+        Meant::Program => (
+            "the form of this line in a program is ",
+            "judge a trace by `cilkcheck judge FILE`; a program has no requests, but functions",
+        ),
+        Meant::Trace => (
+            "the form of this line in a trace is ",
+            "run a program by `cilkcheck run FILE`; behind its declarations it begins with `func`",
+        ),
+    };
     if let Some(form) = form_of(scene.meant, scene.word(0)) {
-        notes.begin(match scene.meant {
-            Meant::Program => "the form of this line in a program is ",
-            Meant::Trace => "the form of this line in a trace is ",
-        });
+        notes.begin(kind);
         notes.add_quoted(form.text, "\n");
     }
-    notes.add_help(match scene.meant {
-        Meant::Program =>
-            "judge a trace by `cilkcheck judge FILE`; a program has no requests, but functions",
-        Meant::Trace =>
-            "run a program by `cilkcheck run FILE`; behind its declarations it begins with `func`",
-    });
+    notes.add_help(help);
 }
 
 /// Notes which cells the array has whose index is wrong.
@@ -195,59 +178,46 @@ pub(crate) fn note_element(notes: &mut Notes, scene: &Scene<'_, '_>, part: Part)
     }
 }
 
-/// What to do about a word, where no other word of the line matters.
-fn word_help(mistake: WordMistake) -> Option<&'static str> {
-    match mistake {
-        WordMistake::Later => Some("write `cilk 2` as the first line"),
-        WordMistake::Slashes => Some("write `#` before a comment"),
-        WordMistake::Semicolon => Some("leave out the `;`"),
-        WordMistake::Name => {
-            Some("begin with a lower-case letter, and go on with such letters, digits and `_`")
-        }
-        WordMistake::Spaces => Some("put a space on each side of `=` and of each operator"),
-        WordMistake::Cell => Some("name a cell as `NAME`, or as `NAME[INDEX]` without spaces"),
-        _ => None,
-    }
-}
-
-/// Notes how a name is written that has upper-case letters.
-fn note_upper_case(notes: &mut Notes, word: &str) {
-    notes.begin("help: write `");
-    notes.add_lowercase(word);
-    notes.add_words("`\n");
-}
-
-/// Notes how long a name is that is too long.
-fn note_long(notes: &mut Notes, word: &str) {
-    notes.begin("help: shorten it from ");
-    notes.add_number(word.len() as u64, " to 32 bytes\n");
-}
-
-/// Notes what `ok` is.
-fn note_ok(notes: &mut Notes) {
-    notes.add_note("each access sets `ok`: to 1 where it is granted, to 0 where it is refused");
-    notes.add_help("name another register");
-}
-
 /// Notes which numbers may stand in the place of a word that is none.
 fn note_no_number(notes: &mut Notes, scene: &Scene<'_, '_>, part: Part) {
     match part {
         Part::Index(_) => note_element(notes, scene, part),
         _ => {
-            note_range(notes, wanted_at(scene, part));
+            note_range(notes, scene.wanted(part));
             note_form(notes, scene);
         }
     }
 }
 
-/// Notes what is known of a word of another shape than its place wants.
-fn note_shape(notes: &mut Notes, scene: &Scene<'_, '_>, mistake: WordMistake, part: Part) {
+/// Notes what is known of a word of another shape than its place wants, or of words that are missing or too much.
+pub(crate) fn note_word(
+    notes: &mut Notes,
+    scene: &Scene<'_, '_>,
+    mistake: WordMistake,
+    part: Part,
+) {
     let word = scene.culprit(part);
     match mistake {
-        WordMistake::UpperCase => note_upper_case(notes, word),
-        WordMistake::LongName => note_long(notes, word),
-        WordMistake::Ok => note_ok(notes),
-        WordMistake::Negative => note_negative(notes, scene, wanted_at(scene, part), word),
+        WordMistake::Statement if scene.word(1) == "=" => note_assignment(notes, scene),
+        WordMistake::Statement | WordMistake::Request => note_first(notes, scene.meant, word),
+        WordMistake::OfTrace | WordMistake::OfProgram => note_other_kind(notes, scene),
+        WordMistake::Extra => note_extra(notes, scene, word),
+        WordMistake::Chain => note_chain(notes, scene),
+        WordMistake::UpperCase => {
+            notes.begin("help: write `");
+            notes.add_lowercase(word);
+            notes.add_words("`\n");
+        }
+        WordMistake::LongName => {
+            notes.begin("help: shorten it from ");
+            notes.add_number(word.len() as u64, " to 32 bytes\n");
+        }
+        WordMistake::Ok => {
+            notes.add_note(
+                "each access sets `ok`: to 1 where it is granted, to 0 where it is refused",
+            );
+        }
+        WordMistake::Negative => note_negative(notes, scene, scene.wanted(part), word),
         WordMistake::Element => {
             notes.add_help_with(
                 "read it into a register first: `read r ",
@@ -266,34 +236,12 @@ fn note_shape(notes: &mut Notes, scene: &Scene<'_, '_>, mistake: WordMistake, pa
         WordMistake::NoMonoid => note_monoid(notes, word),
         WordMistake::Operator => note_operator(notes, scene),
         WordMistake::Array => note_declaration(notes, word),
-        _ => match word_help(mistake) {
-            Some(help) => notes.add_help(help),
-            None => note_form(notes, scene),
-        },
-    }
-}
-
-/// Notes what is known of a word of another shape than its place wants, or of words that are missing or too much.
-pub(crate) fn note_word(
-    notes: &mut Notes,
-    scene: &Scene<'_, '_>,
-    mistake: WordMistake,
-    part: Part,
-) {
-    let word = scene.culprit(part);
-    match mistake {
-        WordMistake::Statement if scene.word(1) == "=" => note_assignment(notes, scene),
-        WordMistake::Statement | WordMistake::Request => note_first(notes, scene.meant, word),
-        WordMistake::OfTrace if scene.word(0) == "return" => {
-            notes.add_help("a function returns at its `end`");
-        }
-        WordMistake::OfTrace | WordMistake::OfProgram => note_other_kind(notes, scene),
-        WordMistake::Extra => note_extra(notes, scene, word),
-        WordMistake::Argument => {
-            note_form(notes, scene);
-            notes.add_help("hand on other values in cells, which the function reads");
-        }
-        WordMistake::Chain => note_chain(notes, scene),
-        _ => note_shape(notes, scene, mistake, part),
+        WordMistake::Later
+        | WordMistake::Slashes
+        | WordMistake::Semicolon
+        | WordMistake::Name
+        | WordMistake::Spaces
+        | WordMistake::Cell => {}
+        _ => note_form(notes, scene),
     }
 }

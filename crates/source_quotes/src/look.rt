@@ -47,35 +47,31 @@ impl Look {
     }
 }
 
-/// What stands before painted words.
-fn paint_start(look: Look, paint: Paint) -> &'static str
-    ensures { result.now ≡ before_paint look.is_painted paint }
+/// What stands before and behind painted words.
+fn paint_codes(look: Look, paint: Paint) -> (&'static str, &'static str)
+    ensures start { result.0.now ≡ before_paint look.is_painted paint }
+    ensures end { result.1.now ≡ behind_paint look.is_painted }
 {
     if !look.is_painted {
-        return "";
+        return ("", "");
     }
-    match paint {
+    let start = match paint {
         Paint::Red => "\u{1b}[1;31m",
         Paint::Yellow => "\u{1b}[1;33m",
         Paint::Blue => "\u{1b}[1;34m",
         Paint::Bold => "\u{1b}[1m",
-    }
-}
-
-/// What stands behind painted words.
-fn paint_end(look: Look) -> &'static str
-    ensures { result.now ≡ behind_paint look.is_painted }
-{
-    if look.is_painted { "\u{1b}[0m" } else { "" }
+    };
+    (start, "\u{1b}[0m")
 }
 
 /// Adds words in a paint.
 pub fn push_painted(text: &mut TextBuilder, look: Look, paint: Paint, words: &str)
     ensures { Adds text.old (painted look paint words.now) text.new }
 {
-    text.push_words(paint_start(look, paint));
+    let (start, end) = paint_codes(look, paint);
+    text.push_words(start);
     text.push_words(words);
-    text.push_words(paint_end(look));
+    text.push_words(end);
 }
 
 /// Adds a byte so many times.
@@ -117,10 +113,11 @@ pub fn push_quote(text: &mut TextBuilder, look: Look, source: &Source<'_>, numbe
     let mut buffer = Buffer::new();
     let digits = buffer.format(number);
     push_repeated(text, look.width.saturating_sub(digits.len()), b' ');
-    text.push_words(paint_start(look, Paint::Blue));
+    let (start, end) = paint_codes(look, Paint::Blue);
+    text.push_words(start);
     text.push_words(digits);
     text.push_words(" |");
-    text.push_words(paint_end(look));
+    text.push_words(end);
     text.push_words(" ");
     text.push_bytes(source.line(number));
     text.push_words("\n");
@@ -173,9 +170,10 @@ pub fn push_sign(text: &mut TextBuilder, look: Look, line: &[u8], mark: u8)
     push_gutter(text, look);
     text.push_words(" ");
     text.push_bytes(front);
-    text.push_words(paint_start(look, Paint::Red));
+    let (start, end) = paint_codes(look, Paint::Red);
+    text.push_words(start);
     push_repeated(text, end_of(statement), mark);
-    text.push_words(paint_end(look));
+    text.push_words(end);
 }
 
 /// Adds the line of the source with this number, and this sign below its statement.
@@ -217,9 +215,10 @@ pub fn push_sign_below(
     push_gutter(text, look);
     text.push_words(" ");
     push_indent(text, front);
-    text.push_words(paint_start(look, paint));
+    let (start, end) = paint_codes(look, paint);
+    text.push_words(start);
     push_repeated(text, span.count, mark);
-    text.push_words(paint_end(look));
+    text.push_words(end);
 }
 
 /// Adds how many there are, and of what, which is one word.

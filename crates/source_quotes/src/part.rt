@@ -29,41 +29,20 @@ pub enum Part {
     Byte(usize),
 }
 
-/// How long the word is that these bytes begin with.
-fn word_length(bytes: &[u8]) -> usize
+/// How many bytes stand before the first one that is among these ends.
+fn count_before(bytes: &[u8], ends: &[u8]) -> usize
     ensures { result ≤ length bytes.now }
 {
     for (at, byte) in bytes.iter().enumerate() {
-        if matches!(*byte, b' ' | b'\t' | b'#') {
+        if ends.contains(byte) {
             return at;
         }
     }
     bytes.len()
 }
 
-/// How many bytes stand before the first one like this.
-fn count_before(bytes: &[u8], end: u8) -> usize
-    ensures { result ≤ length bytes.now }
-{
-    for (at, byte) in bytes.iter().enumerate() {
-        if *byte == end {
-            return at;
-        }
-    }
-    bytes.len()
-}
-
-/// All of a statement.
-fn whole(line: &[u8]) -> Span
-    ensures { IsWithin result line.now }
-{
-    let from = blanks_of(line);
-    let (_, behind) = line.split_at(from);
-    Span {
-        from,
-        count: end_of(behind),
-    }
-}
+/// What ends a word.
+const WORD_ENDS: &[u8] = b" \t#";
 
 /// Where the word with this number begins, or the line's statement ends.
 fn word_from(line: &[u8], number: usize) -> usize
@@ -72,7 +51,7 @@ fn word_from(line: &[u8], number: usize) -> usize
     let mut from = blanks_of(line);
     for _ in 0..number {
         let (_, behind) = line.split_at(from);
-        let length = word_length(behind);
+        let length = count_before(behind, WORD_ENDS);
         let (_, after) = behind.split_at(length);
         from += length + blanks_of(after);
     }
@@ -87,11 +66,11 @@ fn word_span(line: &[u8], number: usize) -> Span
     let (_, behind) = line.split_at(from);
     Span {
         from,
-        count: word_length(behind),
+        count: count_before(behind, WORD_ENDS),
     }
 }
 
-/// The word with this number, and all behind it.
+/// The word with this number, and all of the statement behind it.
 fn onward_span(line: &[u8], number: usize) -> Span
     ensures { IsWithin result line.now }
 {
@@ -110,12 +89,12 @@ fn index_span(line: &[u8], number: usize) -> Span
     let word = word_span(line, number);
     let (front, _) = line.split_at(word.from + word.count);
     let (_, bytes) = front.split_at(word.from);
-    let open = count_before(bytes, b'[');
+    let open = count_before(bytes, b"[");
     let (_, bracket) = bytes.split_at(open);
     match bracket {
         [_, index @ ..] => Span {
             from: word.from + open + 1,
-            count: count_before(index, b']'),
+            count: count_before(index, b"]"),
         },
         [] => Span {
             from: word.from,
@@ -124,27 +103,21 @@ fn index_span(line: &[u8], number: usize) -> Span
     }
 }
 
-/// The byte with this number.
-fn byte_span(line: &[u8], at: usize) -> Span
-    ensures { IsWithin result line.now }
-{
-    if at < line.len() {
-        Span { from: at, count: 1 }
-    } else {
-        Span { from: 0, count: 0 }
-    }
-}
-
 /// The bytes of a part of a line. Where the line has no such part, all of its statement.
 pub fn span_of(line: &[u8], part: Part) -> Span
     ensures { IsWithin result line.now }
 {
     let span = match part {
-        Part::Statement => whole(line),
+        Part::Statement => onward_span(line, 0),
         Part::Word(number) => word_span(line, number),
         Part::Index(number) => index_span(line, number),
         Part::Onward(number) => onward_span(line, number),
-        Part::Byte(at) => byte_span(line, at),
+        Part::Byte(at) if at < line.len() => Span { from: at, count: 1 },
+        Part::Byte(_) => Span { from: 0, count: 0 },
     };
-    if span.count == 0 { whole(line) } else { span }
+    if span.count == 0 {
+        onward_span(line, 0)
+    } else {
+        span
+    }
 }

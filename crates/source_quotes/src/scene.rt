@@ -1,11 +1,10 @@
 //! What the lines around a faulty one say.
 
-ghost use Rattle.std.specs.Prelude.{◌<◌, length, IfSome};
-
+use crate::form::{Wanted, form_of};
 use crate::meant::Meant;
 use crate::part::Part;
 use std::alloc::{AllocError, Global};
-use text_words::{Words, as_text};
+use text_words::{Version, Words, as_text};
 
 /// The first three words of a line; where there are fewer, nothing in their place.
 pub(crate) fn first_words<'a>(line: &'a [u8]) -> (&'a str, &'a str, &'a str) {
@@ -30,12 +29,6 @@ pub(crate) fn words_of<'a>(alloc: Global, line: &'a [u8]) -> Result<Vec<&'a str>
     Ok(taken)
 }
 
-/// Whether a line gives a program the name, as a memory, a reducer or a function.
-fn declares(line: &[u8], name: &str) -> bool {
-    let (first, second, _) = first_words(line);
-    second == name && matches!(first, "mem" | "reducer" | "func")
-}
-
 /// The register that a line of a function names, if it does.
 pub(crate) fn register_of<'a>(line: &'a [u8]) -> Option<&'a str> {
     let (first, second, third) = first_words(line);
@@ -46,32 +39,25 @@ pub(crate) fn register_of<'a>(line: &'a [u8]) -> Option<&'a str> {
     }
 }
 
-/// The line before which a name is declared.
-pub(crate) fn declared_at(lines: &[&[u8]], name: &str) -> Option<usize>
-    ensures { IfSome result (λ place. place < length lines.now) }
-{
-    lines.iter().position(|line| declares(line, name))
+/// The place of the first line that names a register.
+pub(crate) fn named_at(lines: &[&[u8]], name: &str) -> Option<usize> {
+    for (place, line) in lines.iter().enumerate() {
+        if register_of(line) == Some(name) {
+            return Some(place);
+        }
+    }
+    None
 }
 
-/// The line before which a register is named.
-pub(crate) fn named_at(lines: &[&[u8]], name: &str) -> Option<usize>
-    ensures { IfSome result (λ place. place < length lines.now) }
-{
-    lines
-        .iter()
-        .position(|line| register_of(line) == Some(name))
-}
-
-/// The place of the innermost `func` or `if` on these lines that has no `end` yet.
-pub(crate) fn open_at(lines: &[&[u8]]) -> Option<usize>
-    ensures { IfSome result (λ place. place < length lines.now) }
-{
+/// The place and the first word of the innermost `func` or `if` on these lines that has no `end` yet.
+pub(crate) fn open_at<'a>(lines: &[&'a [u8]]) -> Option<(usize, &'a str)> {
     let mut place = lines.len();
     let mut ends = 0_usize;
     while place > 0 {
         place -= 1;
-        match first_words(lines[place]).0 {
-            "func" | "if" if ends == 0 => return Some(place),
+        let first = first_words(lines[place]).0;
+        match first {
+            "func" | "if" if ends == 0 => return Some((place, first)),
             "func" | "if" => ends -= 1,
             "end" => ends += 1,
             _ => {}
@@ -93,14 +79,28 @@ pub(crate) enum Kind<'a> {
     Function,
 }
 
-/// What a line with a name in it declares.
-pub(crate) fn kind_of<'a>(line: &'a [u8]) -> Kind<'a> {
-    match first_words(line) {
-        ("mem", _, "") => Kind::Cell,
-        ("mem", _, length) => Kind::Array(length),
-        ("reducer", _, _) => Kind::Reducer,
-        _ => Kind::Function,
+/// What a line with this first word and this third one declares.
+fn kind_of<'a>(first: &str, third: &'a str) -> Option<Kind<'a>> {
+    match first {
+        "mem" if third.is_empty() => Some(Kind::Cell),
+        "mem" => Some(Kind::Array(third)),
+        "reducer" => Some(Kind::Reducer),
+        "func" => Some(Kind::Function),
+        _ => None,
     }
+}
+
+/// The place of the line that declares a name, and what it declares it as.
+pub(crate) fn declared_at<'a>(lines: &[&'a [u8]], name: &str) -> Option<(usize, Kind<'a>)> {
+    for (place, line) in lines.iter().enumerate() {
+        let (first, second, third) = first_words(line);
+        if second == name
+            && let Some(kind) = kind_of(first, third)
+        {
+            return Some((place, kind));
+        }
+    }
+    None
 }
 
 /// A faulty line and the text around it.
@@ -122,6 +122,14 @@ impl<'s, 'a> Scene<'s, 'a> {
     /// The word with this number, and an empty one behind the last.
     pub(crate) fn word(&self, number: usize) -> &'a str {
         self.words.get(number).copied().unwrap_or("")
+    }
+
+    /// What the place of a part of the line wants, where the part is a word.
+    pub(crate) fn wanted(&self, part: Part) -> Option<Wanted> {
+        match (form_of(self.meant, self.word(0)), part) {
+            (Some(form), Part::Word(at)) => form.place(at),
+            _ => None,
+        }
     }
 
     /// The word that a part of the line is, or begins with.
@@ -154,11 +162,11 @@ impl<'s, 'a> Scene<'s, 'a> {
         &before[begin.unwrap_or(before.len())..]
     }
 
-    /// Whether the text is of version 2.
-    pub(crate) fn is_second(&self) -> bool {
+    /// The version of the text.
+    pub(crate) fn version(&self) -> Version {
         match self.lines {
-            [first, ..] => first_words(first).1 == "2",
-            [] => false,
+            [first, ..] if first_words(first).1 == "2" => Version::Two,
+            _ => Version::One,
         }
     }
 
@@ -169,16 +177,18 @@ impl<'s, 'a> Scene<'s, 'a> {
 
     /// Whether some line of the text begins a function of this name.
     pub(crate) fn is_function(&self, name: &str) -> bool {
-        self.lines.iter().any(|line| {
+        for line in self.lines {
             let (first, second, _) = first_words(line);
-            first == "func" && second == name
-        })
+            if first == "func" && second == name {
+                return true;
+            }
+        }
+        false
     }
 
     /// What a line above declares the name as.
     pub(crate) fn kind(&self, name: &str) -> Option<Kind<'a>> {
-        let before = self.before();
-        let place = declared_at(before, name)?;
-        Some(kind_of(before[place]))
+        let (_, kind) = declared_at(self.before(), name)?;
+        Some(kind)
     }
 }

@@ -20,11 +20,6 @@ fn has_byte(word: &str, byte: u8) -> bool {
     word.as_bytes().contains(&byte)
 }
 
-/// Whether a word has an upper-case letter.
-fn has_upper_case(word: &str) -> bool {
-    word.as_bytes().iter().any(|byte| byte.is_ascii_uppercase())
-}
-
 /// Whether a word joins others by a sign. Only `is_operand` takes a minus sign for one, which a name that is none may have too.
 fn has_sign(word: &str, is_operand: bool) -> bool {
     word.len() > 1
@@ -38,11 +33,6 @@ fn has_sign(word: &str, is_operand: bool) -> bool {
 /// Whether a word is an operator.
 pub(crate) fn is_operator(word: &str) -> bool {
     matches!(word, "+" | "-" | "*" | "<")
-}
-
-/// Whether a word has the shape of an operand.
-fn is_operand(word: &str) -> bool {
-    is_name(word) || begins_with_digit(word)
 }
 
 /// What a word has of the language C.
@@ -62,7 +52,7 @@ pub(crate) fn of_c(word: &str) -> Option<WordMistake> {
 fn of_letters(word: &str, other: WordMistake) -> WordMistake {
     match of_c(word) {
         Some(mistake) => mistake,
-        None if has_upper_case(word) => WordMistake::UpperCase,
+        None if word.bytes().any(|byte| byte.is_ascii_uppercase()) => WordMistake::UpperCase,
         None if word.len() > NAME_LEN => WordMistake::LongName,
         None => other,
     }
@@ -81,26 +71,9 @@ fn name_shape(word: &str, number: WordMistake) -> Option<WordMistake> {
     }
 }
 
-/// What is wrong with a word as the name of what is declared.
-fn fresh_shape(word: &str) -> Option<WordMistake> {
-    match word.split_once('[') {
-        Some((name, _)) if is_name(name) => Some(WordMistake::Array),
-        _ => name_shape(word, WordMistake::NoName),
-    }
-}
-
-/// What is wrong with a word as the name of a register that is assigned.
-fn assigned_shape(word: &str) -> Option<WordMistake> {
-    if word == "ok" {
-        Some(WordMistake::Ok)
-    } else {
-        name_shape(word, WordMistake::NoRegister)
-    }
-}
-
 /// What is wrong with a word as an operand.
 fn operand_shape(word: &str) -> Option<WordMistake> {
-    if is_operand(word) {
+    if is_name(word) || begins_with_digit(word) {
         None
     } else if is_negative(word) {
         Some(WordMistake::Negative)
@@ -122,10 +95,7 @@ fn number_shape(word: &str) -> Option<WordMistake> {
     } else if word.starts_with('@') {
         Some(WordMistake::Missing)
     } else {
-        match of_c(word) {
-            Some(mistake) => Some(mistake),
-            None => Some(WordMistake::NoNumber),
-        }
+        Some(of_c(word).unwrap_or(WordMistake::NoNumber))
     }
 }
 
@@ -166,50 +136,28 @@ pub(crate) fn element(word: &str) -> Option<(&str, &str)> {
     }
 }
 
-/// What is wrong with a word as a cell, the word with this number on its line.
-fn cell_shape(word: &str, at: usize, is_trace: bool) -> Option<(WordMistake, Part)> {
-    match element(word) {
-        Some((_, index)) => match index_shape(index, is_trace) {
-            Some(mistake) => Some((mistake, Part::Index(at))),
-            None => None,
-        },
-        None => match single_shape(word) {
-            Some(mistake) => Some((mistake, Part::Word(at))),
-            None => None,
-        },
-    }
-}
-
-/// What is wrong with a word as a monoid.
-fn monoid_shape(word: &str, version: Version) -> Option<WordMistake> {
-    if monoid_of(version, word).is_some() {
-        None
-    } else if word == "digits" {
-        Some(WordMistake::Later)
-    } else {
-        Some(WordMistake::NoMonoid)
-    }
-}
-
-/// What is wrong with a word that has to be a sign.
-fn sign_shape(is_right: bool, mistake: WordMistake) -> Option<WordMistake> {
-    if is_right { None } else { Some(mistake) }
-}
-
-/// What is wrong with the shape of a word in a place that wants no cell.
+/// What is wrong with the shape of a word that is no cell of an array.
 fn word_shape(wanted: Wanted, word: &str, version: Version) -> Option<WordMistake> {
     match wanted {
-        Wanted::Fresh => fresh_shape(word),
-        Wanted::Parameter | Wanted::Assigned => assigned_shape(word),
-        Wanted::Decider => name_shape(word, WordMistake::NoRegister),
+        Wanted::Fresh => match word.split_once('[') {
+            Some((name, _)) if is_name(name) => Some(WordMistake::Array),
+            _ => name_shape(word, WordMistake::NoName),
+        },
+        Wanted::Parameter | Wanted::Assigned if word == "ok" => Some(WordMistake::Ok),
+        Wanted::Parameter | Wanted::Assigned | Wanted::Decider => {
+            name_shape(word, WordMistake::NoRegister)
+        }
         Wanted::Reducer | Wanted::Function => name_shape(word, WordMistake::NoName),
         Wanted::Operand => operand_shape(word),
         Wanted::Length | Wanted::Strand | Wanted::Value => number_shape(word),
-        Wanted::Monoid => monoid_shape(word, version),
-        Wanted::Equals => sign_shape(word == "=", WordMistake::Equals),
-        Wanted::Sign => sign_shape(is_operator(word), WordMistake::Operator),
-        Wanted::Mark => sign_shape(word.starts_with('@'), WordMistake::Extra),
-        Wanted::Cell | Wanted::TraceCell => None,
+        Wanted::Monoid if monoid_of(version, word).is_some() => None,
+        Wanted::Monoid if word == "digits" => Some(WordMistake::Later),
+        Wanted::Monoid => Some(WordMistake::NoMonoid),
+        Wanted::Equals if word != "=" => Some(WordMistake::Equals),
+        Wanted::Sign if !is_operator(word) => Some(WordMistake::Operator),
+        Wanted::Mark if !word.starts_with('@') => Some(WordMistake::Extra),
+        Wanted::Equals | Wanted::Sign | Wanted::Mark => None,
+        Wanted::Cell | Wanted::TraceCell => single_shape(word),
     }
 }
 
@@ -220,12 +168,10 @@ pub(crate) fn bad_shape(
     at: usize,
     version: Version,
 ) -> Option<(WordMistake, Part)> {
-    match wanted {
-        Wanted::Cell => cell_shape(word, at, false),
-        Wanted::TraceCell => cell_shape(word, at, true),
-        _ => match word_shape(wanted, word, version) {
-            Some(mistake) => Some((mistake, Part::Word(at))),
-            None => None,
-        },
-    }
+    let (found, part) = match (wanted, element(word)) {
+        (Wanted::Cell, Some((_, index))) => (index_shape(index, false), Part::Index(at)),
+        (Wanted::TraceCell, Some((_, index))) => (index_shape(index, true), Part::Index(at)),
+        _ => (word_shape(wanted, word, version), Part::Word(at)),
+    };
+    Some((found?, part))
 }

@@ -31,34 +31,15 @@ fn extra(meant: Meant, first: &str, word: &str, at: usize) -> (WordMistake, Part
     (mistake, Part::Onward(at))
 }
 
-/// The number of a line's words that a form takes at most, its first word too.
-fn most(form: Form) -> usize {
-    form.wanted
-        .len()
-        .saturating_add(form.optional.len())
-        .saturating_add(1)
-}
-
-/// Whether a line has so few words, or not all of what may stand at its end.
-fn is_cut(form: Form, count: usize) -> bool {
-    count < most(form) && count != form.wanted.len().saturating_add(1)
-}
-
-/// Whether a line with this first word fits a form in full.
-fn fits(form: Form, words: &[&str], version: Version) -> bool {
-    first_bad_shape(form, words, version).is_none()
-        && !is_cut(form, words.len())
-        && words.len() <= most(form)
-}
-
 /// What is wrong with a first word that begins no line.
 fn bad_first(meant: Meant, first: &str) -> WordMistake {
     if let Some(mistake) = of_c(first) {
         return mistake;
     }
+    if begins_behind(meant.other(), first) {
+        return of_other(meant);
+    }
     match meant {
-        Meant::Program if begins_behind(Meant::Trace, first) => WordMistake::OfTrace,
-        Meant::Trace if begins_behind(Meant::Program, first) => WordMistake::OfProgram,
         Meant::Program => WordMistake::Statement,
         Meant::Trace => WordMistake::Request,
     }
@@ -74,35 +55,33 @@ fn of_other(meant: Meant) -> WordMistake {
 
 /// What is wrong with words behind the first one, which has this form.
 fn bad_behind(scene: &Scene<'_, '_>, form: Form, version: Version) -> (WordMistake, Part) {
+    let count = scene.words.len();
     if let Some(other) = form_of(scene.meant.other(), scene.word(0))
-        && fits(other, scene.words, version)
+        && other.takes(count)
+        && first_bad_shape(other, scene.words, version).is_none()
     {
         return (of_other(scene.meant), Part::Statement);
     }
     if let Some(found) = first_bad_shape(form, scene.words, version) {
         return found;
     }
-    if is_cut(form, scene.words.len()) {
+    if form.takes(count) {
+        return (WordMistake::Other, Part::Statement);
+    }
+    let most = form.most();
+    if count < most {
         return (WordMistake::Missing, Part::Statement);
     }
-    let at = most(form);
-    if at < scene.words.len() {
-        return extra(scene.meant, scene.word(0), scene.word(at), at);
-    }
-    (WordMistake::Other, Part::Statement)
+    extra(scene.meant, scene.word(0), scene.word(most), most)
 }
 
 /// What is wrong with the words of a line that has a word of another shape than its place wants, or too few or too many.
 pub(crate) fn bad_words(scene: &Scene<'_, '_>) -> (WordMistake, Part) {
     let first = scene.word(0);
-    let version = if scene.is_second() {
-        Version::Two
-    } else {
-        Version::One
-    };
+    let version = scene.version();
     match form_of(scene.meant, first) {
         None => (bad_first(scene.meant, first), Part::Word(0)),
-        Some(_) if matches!(first, "bump" | "pfor") && !scene.is_second() => {
+        Some(_) if matches!((version, first), (Version::One, "bump" | "pfor")) => {
             (WordMistake::Later, Part::Word(0))
         }
         Some(form) => bad_behind(scene, form, version),

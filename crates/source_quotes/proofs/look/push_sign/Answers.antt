@@ -8,5 +8,5 @@ returns c =
     let front = these _ _ _ (take (blanks c.args.line.now) c.args.line.now) c.push_bytes.ensures (search rules) in
     let mark = these _ _ _ (replicate (statement_length c.args.line.now) c.args.mark) c.push_repeated.ensures (search rules) in
     four_adds _ _ _ _ _ _ _ _ _ c.push_gutter.ensures c.push_words.ensures front
-    (three_adds _ _ _ _ _ _ _ (these _ _ _ _ c.push_words-2.ensures c.paint_start.ensures) mark
-    (these _ _ _ _ c.push_words-3.ensures c.paint_end.ensures))
+    (three_adds _ _ _ _ _ _ _ (these _ _ _ _ c.push_words-2.ensures c.paint_codes.ensures.start) mark
+    (these _ _ _ _ c.push_words-3.ensures c.paint_codes.ensures.end))

@@ -6,5 +6,5 @@ use Rattle.source_quotes.proofs.look.push_sign_below.Goals as goal
 pub returns : goal.returns
 returns c =
     four_adds _ _ _ _ _ _ _ _ _ c.push_gutter.ensures c.push_words.ensures (these _ _ _ _ c.push_indent.ensures (ap indent c.split_at.ensures.front))
-    (three_adds _ _ _ _ _ _ _ (these _ _ _ _ c.push_words-2.ensures c.paint_start.ensures) c.push_repeated.ensures
-    (these _ _ _ _ c.push_words-3.ensures c.paint_end.ensures))
+    (three_adds _ _ _ _ _ _ _ (these _ _ _ _ c.push_words-2.ensures c.paint_codes.ensures.start) c.push_repeated.ensures
+    (these _ _ _ _ c.push_words-3.ensures c.paint_codes.ensures.end))
