@@ -1,4 +1,4 @@
-mod Joining
+mod Telling
 mod Listing
 mod Relating
 pub mod Objects

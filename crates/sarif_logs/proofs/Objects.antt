@@ -8,10 +8,10 @@ use Rattle.serde_json.specs.declared.value.Value.{Value}
 use Rattle.sarif_logs.specs.declared.object.Object.{Object}
 use Rattle.sarif_logs.specs.Objects.{made, Makes, told_view, Puts, Ends}
 
-some_is : {X : Type 0} {one two : X} → Some one ≡ Some two → one ≡ two
+pub some_is : {X : Type 0} {one two : X} → Some one ≡ Some two → one ≡ two
 some_is e = cc
 
-never : {X : Type 0} {one : X} → None ≡ Some one → ⊥
+pub never : {X : Type 0} {one : X} → None ≡ Some one → ⊥
 never e = absurd (cc)
 
 pub begins : (now : Option Members) (members : Members) → now ≡ Some members → IfSome now (λ some. some ≡ members)

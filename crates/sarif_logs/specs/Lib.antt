@@ -1,5 +1,6 @@
 pub mod Reading
 pub mod Objects
+pub mod Lists
 pub mod Places
 pub mod PlaceViews
 pub mod Accesses
@@ -7,5 +8,6 @@ pub mod AccessViews
 pub mod Messages
 pub mod Related
 pub mod Rules
+pub mod RuleViews
 pub mod Results
 pub mod Logs

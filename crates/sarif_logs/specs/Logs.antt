@@ -19,6 +19,10 @@ finding_result Fault told = fault_result told
 abbrev pub illegal_results : Data → List Data
 illegal_results told = if is_at (codes "outcome") (codes "illegal") told then illegal_result told ∷ [] else []
 
+-- results, and those of further findings
+abbrev pub with_findings : Finding → List Data → List Data → List Data
+with_findings finding told before = before ++ map (finding_result finding) told
+
 -- of the warnings, the races, the faults and the illegal request that a record tells
 abbrev pub results_of : Data → List Data
 results_of told =

@@ -22,22 +22,20 @@ names_words (name ∷ others) = name_words name ++ other_words (length others)
 abbrev pub refused_words : AccessParts → (names : List Data) → List ℕ
 refused_words refused names = codes "This " ++ refused.word ++ codes " of " ++ names_words names ++ in_function refused.place.function
 
--- the earlier access
-abbrev pub witness_words : AccessParts → List ℕ
-witness_words witness =
-    codes "[" ++ witness.word ++ codes "](1)" ++ in_function witness.place.function ++ codes " at " ++ place_words witness.place
-
-abbrev pub order_words : AccessParts → List ℕ
-order_words witness = codes " may run before or after the " ++ witness_words witness ++ codes "."
-
-abbrev pub peer_words : AccessParts → List ℕ
-peer_words witness = codes " has other peers than the " ++ witness_words witness ++ codes ", so what it finds may depend on the schedule."
+-- words, the earlier access, and further words
+abbrev pub between_words : (before : List ℕ) → AccessParts → (behind : List ℕ) → List ℕ
+between_words before witness behind =
+    before ++ (codes "[" ++ witness.word ++ codes "](1)") ++ in_function witness.place.function ++ codes " at " ++
+    place_words witness.place ++ behind
 
 -- what is wrong with the refused access
 abbrev pub conflict_words : Data → List ℕ
 conflict_words race =
-    if is_at (codes "rule") (codes "determinacy-race") race then order_words (access_at (codes "witness") race)
-    else (if is_at (codes "rule") (codes "view-read-race") race then peer_words (access_at (codes "witness") race)
+    if is_at (codes "rule") (codes "determinacy-race") race
+    then between_words (codes " may run before or after the ") (access_at (codes "witness") race) (codes ".")
+    else (if is_at (codes "rule") (codes "view-read-race") race
+    then between_words (codes " has other peers than the ") (access_at (codes "witness") race)
+    (codes ", so what it finds may depend on the schedule.")
     else codes " finds nothing: no put or get of it was granted before.")
 
 abbrev pub spawn_words : (parting outstanding : Option Data) → List ℕ

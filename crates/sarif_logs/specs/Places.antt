@@ -110,7 +110,7 @@ functions_told None = array no_items
 
 -- words, and behind them a place without a file
 abbrev pub noted_words : (words : List ℕ) → PlaceParts → List ℕ
-noted_words words place = words ++ codes " (" ++ place_words place ++ codes ")"
+noted_words words place = words ++ (codes " (" ++ place_words place ++ codes ")")
 
 abbrev pub location_in : Option (List ℕ) → PlaceParts → Data
 location_in (Some file) place =

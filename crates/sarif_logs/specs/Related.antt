@@ -1,6 +1,7 @@
 -- The related locations of a race: the earlier access, the spawn where the two part, and the spawns and calls that led there. Each is added
 -- behind others, and has the next number.
-use Rattle.std.specs.Prelude.{ℕ, ◌+◌, List, [], ◌∷◌, ◌++◌, codes, length, Option, Some, None}
+use Rattle.std.specs.Prelude.{ℕ, ◌+◌, ◌≡◌, List, [], ◌∷◌, ◌++◌, codes, length, Option, Some, None, IfSome, option_and_then}
+use Rattle.std.specs.Option.{option_map}
 use Rattle.serde_json.specs.Data.{Data}
 use Rattle.sarif_logs.specs.Reading.{words_at, object_at}
 use Rattle.sarif_logs.specs.Places.{PlaceParts, place_at, place_words, related_told}
@@ -9,43 +10,45 @@ use Rattle.sarif_logs.specs.Accesses.{access_at}
 abbrev pub with_related : (words : List ℕ) → PlaceParts → List Data → List Data
 with_related words place related = related ++ related_told (length related + 1) words place ∷ []
 
-abbrev pub parting_words : Data → List ℕ
-parting_words parting =
-    codes "here they part: what is spawned comes to " ++ place_words (place_at (codes "child") parting) ++
-    codes ", and the spawner goes on to " ++ place_words (place_at (codes "next") parting)
+-- a related location is added, of which these words are said, where there was memory for both
+pub record Relates (old : Option (List Data)) (words : Option (List ℕ)) (place : PlaceParts) (new : Option (List Data)) : Type 0 where
+  pub relates : IfSome new (λ now. option_and_then (λ said. option_map (with_related said place) old) words ≡ Some now)
 
-abbrev pub outstanding_words : Data → List ℕ
-outstanding_words outstanding =
-    codes "this spawn is outstanding at " ++ place_words (place_at (codes "at") outstanding) ++ codes " and not at " ++
-    place_words (place_at (codes "not_at") outstanding)
-
--- a spawn or call that led to an access
-abbrev pub link_words : Data → (access : List ℕ) → List ℕ
-link_words link access = words_at (codes "way") link ++ codes " here, on the way to " ++ access
+-- a spawn or call that led to one of two accesses
+abbrev pub link_words : Data → (which word : List ℕ) → List ℕ
+link_words link which word = words_at (codes "way") link ++ codes " here, on the way to " ++ which ++ word
 
 abbrev pub with_witness : Option Data → List Data → List Data
 with_witness (Some witness) related =
     with_related (codes "the earlier " ++ words_at (codes "word") witness) (place_at (codes "place") witness) related
 with_witness None related = related
 
+-- a spawn, with what is said of the places at these two keys
+abbrev pub with_spawn : (before first between second : List ℕ) → Option Data → List Data → List Data
+with_spawn before first between second (Some spawn) related =
+    with_related (before ++ place_words (place_at first spawn) ++ between ++ place_words (place_at second spawn))
+    (place_at (codes "spawn") spawn) related
+with_spawn before first between second None related = related
+
 abbrev pub with_parting : Option Data → List Data → List Data
-with_parting (Some parting) related = with_related (parting_words parting) (place_at (codes "spawn") parting) related
-with_parting None related = related
+with_parting parting =
+    with_spawn (codes "here they part: what is spawned comes to ") (codes "child") (codes ", and the spawner goes on to ") (codes "next") parting
 
 abbrev pub with_outstanding : Option Data → List Data → List Data
-with_outstanding (Some outstanding) related = with_related (outstanding_words outstanding) (place_at (codes "spawn") outstanding) related
-with_outstanding None related = related
+with_outstanding outstanding =
+    with_spawn (codes "this spawn is outstanding at ") (codes "at") (codes " and not at ") (codes "not_at") outstanding
 
-abbrev pub with_links : (access : List ℕ) → (links : List Data) → List Data → List Data
-with_links access [] related = related
-with_links access (link ∷ links) related =
-    with_links access links (with_related (link_words link access) (place_at (codes "place") link) related)
+-- the spawns and calls that led to one of two accesses
+abbrev pub with_links : (which word : List ℕ) → (links : List Data) → List Data → List Data
+with_links which word [] related = related
+with_links which word (link ∷ links) related =
+    with_links which word links (with_related (link_words link which word) (place_at (codes "place") link) related)
 
 -- those of the two accesses of a race
 abbrev pub with_accesses : Data → List Data → List Data
 with_accesses race related =
-    with_links (codes "the earlier " ++ (access_at (codes "witness") race).word) (access_at (codes "witness") race).within
-    (with_links (codes "this " ++ (access_at (codes "refused") race).word) (access_at (codes "refused") race).within related)
+    with_links (codes "the earlier ") (access_at (codes "witness") race).word (access_at (codes "witness") race).within
+    (with_links (codes "this ") (access_at (codes "refused") race).word (access_at (codes "refused") race).within related)
 
 abbrev pub with_all : Data → List Data → List Data
 with_all race related =

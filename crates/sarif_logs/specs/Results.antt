@@ -1,7 +1,7 @@
 -- The results of a log: what is told of warnings, races, faults of a text and an illegal request.
 use Rattle.std.specs.Prelude.{ℕ, ◌==◌, List, [], ◌++◌, codes}
 use Rattle.std.specs.List.{before_first, after_first}
-use Rattle.serde_json.specs.Data.{Data, string, array, object, item, no_items, member, no_members}
+use Rattle.serde_json.specs.Data.{Data, Members, string, array, object, item, no_items, member, no_members}
 use Rattle.serde_json.specs.View.{items_of}
 use Rattle.sarif_logs.specs.declared.rule.Rule.{Rule}
 use Rattle.sarif_logs.specs.declared.rule.Rule.TheVariants.{TextFault, IllegalRequest}
@@ -10,7 +10,16 @@ use Rattle.sarif_logs.specs.Places.{PlaceParts, place_of, place_at, text_told, c
 use Rattle.sarif_logs.specs.Accesses.{access_at}
 use Rattle.sarif_logs.specs.Messages.{race_words, help_words}
 use Rattle.sarif_logs.specs.Related.{related_of}
-use Rattle.sarif_logs.specs.Rules.{id, level, number, rule_named}
+use Rattle.sarif_logs.specs.Rules.{texts, level, number, rule_named}
+
+-- which rule is broken, where, and how often
+abbrev pub result_members : Rule → PlaceParts → (times : ℕ) → Members
+result_members rule place times =
+    member (codes "level") (string (level rule))
+    (member (codes "locations") (array (item (location_told place) no_items))
+    (member (codes "occurrenceCount") (count_told times)
+    (member (codes "ruleId") (string (texts rule).id)
+    (member (codes "ruleIndex") (count_told (number rule)) no_members))))
 
 abbrev pub result_told : Rule → (message : Data) → PlaceParts → (related : List Data) → (properties : Data) → (times : ℕ) → Data
 result_told rule message place related properties times =
@@ -20,7 +29,7 @@ result_told rule message place related properties times =
     (member (codes "occurrenceCount") (count_told times)
     (member (codes "properties") properties
     (member (codes "relatedLocations") (array (items_of related))
-    (member (codes "ruleId") (string (id rule))
+    (member (codes "ruleId") (string (texts rule).id)
     (member (codes "ruleIndex") (count_told (number rule)) no_members))))))))
 
 -- ---- races

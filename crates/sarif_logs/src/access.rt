@@ -5,7 +5,7 @@ ghost use Rattle.serde_json.specs.View.{view};
 ghost use Rattle.sarif_logs.specs.Accesses.{access_of, access_at};
 ghost use Rattle.sarif_logs.specs.AccessViews.{access_parts};
 
-use crate::place::{Place, place_at};
+use crate::place::{NOWHERE, Place, place_at};
 use crate::reading::{count_at, items_at, object_at, words_at};
 use serde_json::Value;
 
@@ -38,13 +38,7 @@ pub(crate) fn access_at<'v>(value: &'v Value, key: &str) -> Access<'v>
         Some(access) => access_of(access),
         None => Access {
             word: "",
-            place: Place {
-                file: None,
-                line: None,
-                column: None,
-                function: None,
-                code: None,
-            },
+            place: NOWHERE,
             within: &[],
             further: 0,
         },

@@ -5,6 +5,7 @@
 #![tactic(auto)]
 
 mod access;
+mod list;
 mod log;
 mod message;
 mod object;
@@ -13,6 +14,7 @@ mod reading;
 mod related;
 mod result;
 mod rule;
+mod words;
 
 pub use log::log_value;
 pub use object::Object;

@@ -1,114 +1,69 @@
 //! What the message of a race says: what races with what, and what would order them.
 
-ghost use Rattle.std.specs.Prelude.{◌≡◌, ◌++◌, ◌∷◌, List, IfOk, OnOk, codes, decimal, map, string_bytes};
+ghost use Rattle.std.specs.Prelude.{◌≡◌, ◌++◌, IfOk, codes, map};
 ghost use Rattle.std.specs.Option.{option_map};
 ghost use Rattle.serde_json.specs.View.{view};
+ghost use Rattle.text_buffers.specs.Builders.{Adds};
 ghost use Rattle.sarif_logs.specs.Places.{text_told};
 ghost use Rattle.sarif_logs.specs.AccessViews.{access_parts};
-ghost use Rattle.sarif_logs.specs.Messages.{name_words, other_words, names_words, refused_words, witness_words, order_words, peer_words};
-ghost use Rattle.sarif_logs.specs.Messages.{conflict_words, spawn_words, help_words, race_words};
+ghost use Rattle.sarif_logs.specs.Messages.{other_words, names_words, between_words, conflict_words, spawn_words, help_words, race_words};
 
 use crate::access::{Access, access_at};
-use crate::place::{push_function, push_place, text_value};
+use crate::place::{message_value, push_function, push_place};
 use crate::reading::{is_at, items_at, object_at, text_at};
-use itoa::Buffer;
+use crate::words::Words;
 use serde_json::Value;
 use std::alloc::{AllocError, Global};
 
-/// Adds words behind others.
-pub(crate) fn push_three(
-    text: &mut String,
-    first: &str,
-    second: &str,
-    third: &str,
-) -> Result<(), AllocError>
-    ensures { OnOk result (string_bytes text.new ≡ string_bytes text.old ++ first.now ++ second.now ++ third.now) }
-{
-    text.push_str(first)?;
-    text.push_str(second)?;
-    text.push_str(third)
-}
-
-/// Adds a name.
-fn push_name(text: &mut String, name: &Value) -> Result<(), AllocError>
-    ensures { OnOk result (string_bytes text.new ≡ string_bytes text.old ++ name_words (view name.now)) }
-{
-    push_three(text, "`", name.as_str().unwrap_or(""), "`")
-}
-
 /// Adds how many other names there are.
-fn push_others(text: &mut String, count: usize) -> Result<(), AllocError>
-    ensures { OnOk result (string_bytes text.new ≡ string_bytes text.old ++ other_words count) }
+fn push_others(text: &mut Words, count: usize)
+    ensures { Adds text.old (other_words count) text.new }
 {
     if count == 0 {
-        return Ok(());
+        return;
     }
-    text.push_str(" and ")?;
-    text.push_str(Buffer::new().format(count))?;
-    text.push_str(if count == 1 { " other" } else { " others" })
+    text.push_number(" and ", count as u64);
+    text.push(if count == 1 { " other" } else { " others" });
 }
 
 /// Adds the first of the names of what was accessed, and how many others there are.
-fn push_names(text: &mut String, names: &[Value]) -> Result<(), AllocError>
-    ensures { OnOk result (string_bytes text.new ≡ string_bytes text.old ++ names_words (map view names.now)) }
+fn push_names(text: &mut Words, names: &[Value])
+    ensures { Adds text.old (names_words (map view names.now)) text.new }
 {
     match names {
-        [] => text.push_str("something"),
+        [] => text.push("something"),
         [name, others @ ..] => {
-            push_name(text, name)?;
-            push_others(text, others.len())
+            text.push_three("`", name.as_str().unwrap_or(""), "`");
+            push_others(text, others.len());
         }
     }
 }
 
-/// Adds the access that was refused.
-fn push_refused(text: &mut String, refused: &Access<'_>, names: &[Value]) -> Result<(), AllocError>
-    ensures { OnOk result (string_bytes text.new ≡ string_bytes text.old ++ refused_words (access_parts refused.now) (map view names.now)) }
+/// Adds words, the earlier access with a link to the first related location, and further words.
+fn push_between(text: &mut Words, before: &str, witness: &Access<'_>, behind: &str)
+    ensures { Adds text.old (between_words before.now (access_parts witness.now) behind.now) text.new }
 {
-    push_three(text, "This ", refused.word, " of ")?;
-    push_names(text, names)?;
-    push_function(text, &refused.place)
-}
-
-/// Adds the earlier access, with a link to the first related location.
-fn push_witness(text: &mut String, witness: &Access<'_>) -> Result<(), AllocError>
-    ensures { OnOk result (string_bytes text.new ≡ string_bytes text.old ++ witness_words (access_parts witness.now)) }
-{
-    push_three(text, "[", witness.word, "](1)")?;
-    push_function(text, &witness.place)?;
-    text.push_str(" at ")?;
-    push_place(text, &witness.place)
-}
-
-/// Adds that two accesses are not ordered.
-fn push_order(text: &mut String, witness: &Access<'_>) -> Result<(), AllocError>
-    ensures { OnOk result (string_bytes text.new ≡ string_bytes text.old ++ order_words (access_parts witness.now)) }
-{
-    text.push_str(" may run before or after the ")?;
-    push_witness(text, witness)?;
-    text.push_str(".")
-}
-
-/// Adds that two reads of a reducer have different peers.
-fn push_peers(text: &mut String, witness: &Access<'_>) -> Result<(), AllocError>
-    ensures { OnOk result (string_bytes text.new ≡ string_bytes text.old ++ peer_words (access_parts witness.now)) }
-{
-    text.push_str(" has other peers than the ")?;
-    push_witness(text, witness)?;
-    text.push_str(", so what it finds may depend on the schedule.")
+    text.push(before);
+    text.push_three("[", witness.word, "](1)");
+    push_function(text, &witness.place);
+    text.push(" at ");
+    push_place(text, &witness.place);
+    text.push(behind);
 }
 
 /// Adds what is wrong with the refused access.
-fn push_conflict(text: &mut String, race: &Value) -> Result<(), AllocError>
-    ensures { OnOk result (string_bytes text.new ≡ string_bytes text.old ++ conflict_words (view race.now)) }
+fn push_conflict(text: &mut Words, race: &Value)
+    ensures { Adds text.old (conflict_words (view race.now)) text.new }
 {
+    let witness = access_at(race, "witness");
     if is_at(race, "rule", "determinacy-race") {
-        return push_order(text, &access_at(race, "witness"));
+        push_between(text, " may run before or after the ", &witness, ".");
+    } else if is_at(race, "rule", "view-read-race") {
+        let behind = ", so what it finds may depend on the schedule.";
+        push_between(text, " has other peers than the ", &witness, behind);
+    } else {
+        text.push(" finds nothing: no put or get of it was granted before.");
     }
-    if is_at(race, "rule", "view-read-race") {
-        return push_peers(text, &access_at(race, "witness"));
-    }
-    text.push_str(" finds nothing: no put or get of it was granted before.")
 }
 
 /// What is said of the spawn, with a link to the second related location.
@@ -124,34 +79,26 @@ fn spawn_words(parting: Option<&Value>, outstanding: Option<&Value>) -> &'static
 }
 
 /// Adds what would order the two, where it is known.
-pub(crate) fn push_help(text: &mut String, help: Option<&str>) -> Result<(), AllocError>
-    ensures { OnOk result (string_bytes text.new ≡ string_bytes text.old ++ help_words (option_map (λ help. help.now) help.entry)) }
+pub(crate) fn push_help(text: &mut Words, help: Option<&str>)
+    ensures { Adds text.old (help_words (option_map (λ help. help.now) help.entry)) text.new }
 {
     match help {
-        Some(help) => push_three(text, " Help: ", help, "."),
-        None => Ok(()),
+        Some(help) => text.push_three(" Help: ", help, "."),
+        None => {}
     }
 }
 
-/// Adds the refused access, what is wrong with it, and what would order the two.
-fn push_race(text: &mut String, race: &Value) -> Result<(), AllocError>
-    ensures { OnOk result (string_bytes text.new ≡ string_bytes text.old ++ race_words (view race.now)) }
-{
-    push_refused(
-        text,
-        &access_at(race, "refused"),
-        items_at(race, "locations"),
-    )?;
-    push_conflict(text, race)?;
-    text.push_str(spawn_words(object_at(race, "parting"), object_at(race, "outstanding")))?;
-    push_help(text, text_at(race, "help"))
-}
-
-/// The message of a race.
+/// The message of a race: the refused access, what is wrong with it, and what would order the two.
 pub(crate) fn race_message(alloc: Global, race: &Value) -> Result<Value, AllocError>
     ensures { IfOk result (λ value. view value ≡ text_told (race_words (view race.now))) }
 {
-    let mut text = String::new(alloc);
-    push_race(&mut text, race)?;
-    text_value(alloc, text.as_str())
+    let mut text = Words::new(alloc);
+    let refused = access_at(race, "refused");
+    text.push_three("This ", refused.word, " of ");
+    push_names(&mut text, items_at(race, "locations"));
+    push_function(&mut text, &refused.place);
+    push_conflict(&mut text, race);
+    text.push(spawn_words(object_at(race, "parting"), object_at(race, "outstanding")));
+    push_help(&mut text, text_at(race, "help"));
+    message_value(alloc, text)
 }

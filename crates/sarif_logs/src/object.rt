@@ -1,9 +1,9 @@
-//! Objects made member by member, and lists of one item.
+//! Objects made member by member.
 //!
 //! An [`Object`] goes from call to call by value. That there was no memory for a member is noted, and told once, at the end.
 
 ghost use Rattle.std.specs.Prelude.{◌≡◌, Some, IfOk};
-ghost use Rattle.serde_json.specs.Data.{string, array, item, no_items, no_members};
+ghost use Rattle.serde_json.specs.Data.{string, no_members};
 ghost use Rattle.serde_json.specs.View.{view};
 ghost use Rattle.sarif_logs.specs.Objects.{made, told_view, Puts, Ends};
 
@@ -78,13 +78,4 @@ impl Object {
         }
         Ok(Value::Object(self.members))
     }
-}
-
-/// A list of one item.
-pub(crate) fn list_of_one(alloc: Global, value: Value) -> Result<Value, AllocError>
-    ensures { IfOk result (λ made. view made ≡ array (item (view value) no_items)) }
-{
-    let mut list = Vec::new(alloc);
-    list.push(value)?;
-    Ok(Value::Array(list))
 }

@@ -1,18 +1,19 @@
 //! Places of a record as locations of a log.
 
-ghost use Rattle.std.specs.Prelude.{◌≡◌, ◌++◌, IfOk, OnOk, Some, None, codes, decimal, map, string_bytes};
+ghost use Rattle.std.specs.Prelude.{◌≡◌, IfOk, Some, codes, string_bytes};
 ghost use Rattle.std.specs.Option.{option_map};
-ghost use Rattle.serde_json.specs.Data.{array, item, no_items, member, no_members};
+ghost use Rattle.serde_json.specs.Data.{member, no_members};
 ghost use Rattle.serde_json.specs.View.{view};
 ghost use Rattle.sarif_logs.specs.Places.{place_of, place_at, nowhere, scheme, uri, text_told, count_told, region_told, artifact_told, physical_told, function_told, functions_told};
-ghost use Rattle.sarif_logs.specs.Places.{column_words, line_words, place_words, in_function, location_told, related_told, noted_words};
+ghost use Rattle.sarif_logs.specs.Places.{column_words, place_words, in_function, location_told, related_told};
+ghost use Rattle.text_buffers.specs.Builders.{Adds};
 ghost use Rattle.sarif_logs.specs.Objects.{Makes};
 ghost use Rattle.sarif_logs.specs.PlaceViews.{place_parts};
 
-use crate::message::push_three;
-use crate::object::{Object, list_of_one};
+use crate::list::{ValueList, list_of_one};
+use crate::object::Object;
 use crate::reading::{number_at, object_at, text_at};
-use itoa::Buffer;
+use crate::words::Words;
 use percent_encoding::{AsciiSet, NON_ALPHANUMERIC, ascii_set, utf8_percent_encode};
 use serde_json::Value;
 use std::alloc::{AllocError, Global};
@@ -38,6 +39,15 @@ pub(crate) struct Place<'v> {
     pub(crate) code: Option<&'v str>,
 }
 
+/// No part is known.
+pub(crate) const NOWHERE: Place<'static> = Place {
+    file: None,
+    line: None,
+    column: None,
+    function: None,
+    code: None,
+};
+
 /// The place that a value tells.
 pub(crate) fn place_of(value: &Value) -> Place<'_>
     ensures { place_parts result ≡ place_of (view value.now) }
@@ -57,13 +67,7 @@ pub(crate) fn place_at<'v>(value: &'v Value, key: &str) -> Place<'v>
 {
     match object_at(value, key) {
         Some(place) => place_of(place),
-        None => Place {
-            file: None,
-            line: None,
-            column: None,
-            function: None,
-            code: None,
-        },
+        None => NOWHERE,
     }
 }
 
@@ -86,11 +90,18 @@ fn uri(alloc: Global, name: &str) -> Result<String, AllocError>
     Ok(uri)
 }
 
-/// A message.
+/// A text as a message.
 pub(crate) fn text_value(alloc: Global, text: &str) -> Result<Value, AllocError>
     ensures { IfOk result (λ value. view value ≡ text_told text.now) }
 {
     Object::new(alloc).with_text("text", text).finish()
+}
+
+/// A built text as a message.
+pub(crate) fn message_value(alloc: Global, words: Words) -> Result<Value, AllocError>
+    ensures { IfOk result (λ value. option_map text_told words ≡ Some (view value)) }
+{
+    Object::new(alloc).with_made("text", words.end()).finish()
 }
 
 /// The part of a file: a line, from a column on where it is known.
@@ -153,87 +164,53 @@ fn functions_value(alloc: Global, function: Option<&str>) -> Result<Value, Alloc
     ensures { IfOk result (λ value. view value ≡ functions_told (option_map (λ function. function.now) function.entry)) }
 {
     match function {
-        Some(function) => list_of_one(alloc, function_value(alloc, function)?),
-        None => Ok(Value::Array(Vec::new(alloc))),
+        Some(function) => list_of_one(alloc, function_value(alloc, function)),
+        None => ValueList::new(alloc).finish(),
     }
 }
 
 /// Adds a number behind a colon, where there is one.
-fn push_number(text: &mut String, number: Option<u64>) -> Result<(), AllocError>
-    ensures { OnOk result (string_bytes text.new ≡ string_bytes text.old ++ column_words number) }
+fn push_number(text: &mut Words, number: Option<u64>)
+    ensures { Adds text.old (column_words number) text.new }
 {
     match number {
-        Some(number) => {
-            text.push_str(":")?;
-            text.push_str(Buffer::new().format(number))
-        }
-        None => Ok(()),
-    }
-}
-
-/// Adds which line it is, where no file is known.
-fn push_line(text: &mut String, line: Option<u64>) -> Result<(), AllocError>
-    ensures { OnOk result (string_bytes text.new ≡ string_bytes text.old ++ line_words line) }
-{
-    match line {
-        Some(line) => {
-            text.push_str("line ")?;
-            text.push_str(Buffer::new().format(line))
-        }
-        None => text.push_str("an unknown line"),
+        Some(number) => text.push_number(":", number),
+        None => {}
     }
 }
 
 /// Adds where a place is.
-pub(crate) fn push_place(text: &mut String, place: &Place<'_>) -> Result<(), AllocError>
-    ensures { OnOk result (string_bytes text.new ≡ string_bytes text.old ++ place_words (place_parts place.now)) }
+pub(crate) fn push_place(text: &mut Words, place: &Place<'_>)
+    ensures { Adds text.old (place_words (place_parts place.now)) text.new }
 {
-    match place.file {
-        Some(file) => {
-            text.push_str(file)?;
-            push_number(text, place.line)?;
-            push_number(text, place.column)
+    match (place.file, place.line) {
+        (Some(file), line) => {
+            text.push(file);
+            push_number(text, line);
+            push_number(text, place.column);
         }
-        None => push_line(text, place.line),
+        (None, Some(line)) => text.push_number("line ", line),
+        (None, None) => text.push("an unknown line"),
     }
 }
 
 /// Adds in which function a place is, where it is known.
-pub(crate) fn push_function(text: &mut String, place: &Place<'_>) -> Result<(), AllocError>
-    ensures { OnOk result (string_bytes text.new ≡ string_bytes text.old ++ in_function (place_parts place.now).function) }
+pub(crate) fn push_function(text: &mut Words, place: &Place<'_>)
+    ensures { Adds text.old (in_function (place_parts place.now).function) text.new }
 {
     match place.function {
-        Some(function) => push_three(text, " in `", function, "`"),
-        None => Ok(()),
+        Some(function) => text.push_three(" in `", function, "`"),
+        None => {}
     }
-}
-
-/// Adds words, and behind them a place without a file.
-fn push_noted(text: &mut String, words: &str, place: &Place<'_>) -> Result<(), AllocError>
-    ensures { OnOk result (string_bytes text.new ≡ string_bytes text.old ++ noted_words words.now (place_parts place.now)) }
-{
-    text.push_str(words)?;
-    text.push_str(" (")?;
-    push_place(text, place)?;
-    text.push_str(")")
-}
-
-/// A message, and behind it a place without a file.
-fn noted_message(alloc: Global, words: &str, place: &Place<'_>) -> Result<Value, AllocError>
-    ensures { IfOk result (λ value. view value ≡ text_told (noted_words words.now (place_parts place.now))) }
-{
-    let mut noted = String::new(alloc);
-    push_noted(&mut noted, words, place)?;
-    text_value(alloc, noted.as_str())
 }
 
 /// A place as a message.
 fn place_message(alloc: Global, place: &Place<'_>) -> Result<Value, AllocError>
     ensures { IfOk result (λ value. view value ≡ text_told (place_words (place_parts place.now))) }
 {
-    let mut words = String::new(alloc);
-    push_place(&mut words, place)?;
-    text_value(alloc, words.as_str())
+    let mut words = Words::new(alloc);
+    push_place(&mut words, place);
+    message_value(alloc, words)
 }
 
 /// The part of a location that related ones have too.
@@ -245,7 +222,7 @@ fn begin_location(alloc: Global, place: &Place<'_>) -> Object
 }
 
 /// A place as the location of a result. One without a file has no physical location, and a message in its place.
-fn location_value(alloc: Global, place: &Place<'_>) -> Result<Value, AllocError>
+pub(crate) fn location_value(alloc: Global, place: &Place<'_>) -> Result<Value, AllocError>
     ensures { IfOk result (λ value. view value ≡ location_told (place_parts place.now)) }
 {
     let location = begin_location(alloc, place);
@@ -260,30 +237,28 @@ fn location_value(alloc: Global, place: &Place<'_>) -> Result<Value, AllocError>
     }
 }
 
-/// The one location of a result.
-pub(crate) fn locations_value(alloc: Global, place: &Place<'_>) -> Result<Value, AllocError>
-    ensures { IfOk result (λ value. view value ≡ array (item (location_told (place_parts place.now)) no_items)) }
-{
-    list_of_one(alloc, location_value(alloc, place)?)
-}
-
-/// A place as a related location, with a number by which messages link to it.
+/// A place as a related location, with a number by which messages link to it, and what is said of it.
 pub(crate) fn related_value(
     alloc: Global,
     number: usize,
-    words: &str,
+    mut words: Words,
     place: &Place<'_>,
 ) -> Result<Value, AllocError>
-    ensures { IfOk result (λ value. view value ≡ related_told number words.now (place_parts place.now)) }
+    ensures { IfOk result (λ value. option_map (λ said. related_told number said (place_parts place.now)) words ≡ Some (view value)) }
 {
     let location = begin_location(alloc, place).with("id", Value::from(number));
     match place.file {
         Some(file) => location
-            .with_made("message", text_value(alloc, words))
             .with_made("physicalLocation", physical_value(alloc, file, place))
+            .with_made("message", message_value(alloc, words))
             .finish(),
-        None => location
-            .with_made("message", noted_message(alloc, words, place))
-            .finish(),
+        None => {
+            words.push(" (");
+            push_place(&mut words, place);
+            words.push(")");
+            location
+                .with_made("message", message_value(alloc, words))
+                .finish()
+        }
     }
 }

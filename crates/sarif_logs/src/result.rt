@@ -1,64 +1,53 @@
 //! The results of a log: what is told of warnings, races, faults of a text and an illegal request.
 
-ghost use Rattle.std.specs.Prelude.{◌≡◌, ◌++◌, [], false, IfOk, OnOk, codes, map, string_bytes};
+ghost use Rattle.std.specs.Prelude.{◌≡◌, IfOk, Some, codes};
+ghost use Rattle.std.specs.Option.{option_map};
 ghost use Rattle.serde_json.specs.View.{view};
-ghost use Rattle.sarif_logs.specs.Reading.{words_at};
-ghost use Rattle.sarif_logs.specs.Places.{text_told};
+ghost use Rattle.sarif_logs.specs.Objects.{Makes};
 ghost use Rattle.sarif_logs.specs.PlaceViews.{place_parts};
-ghost use Rattle.sarif_logs.specs.Results.{result_told, race_properties, race_result, warning_words, warning_result, first_line, behind_word, title_of, quoted, told_twice, fault_words, fault_properties, fault_result};
-ghost use Rattle.sarif_logs.specs.Results.{illegal_words, illegal_properties, illegal_result};
+ghost use Rattle.sarif_logs.specs.Results.{result_members, race_properties, race_result, warning_result, first_line, behind_word, told_twice, fault_result};
+ghost use Rattle.sarif_logs.specs.Results.{illegal_properties, illegal_result};
 
 use crate::access::access_at;
+use crate::list::{ValueList, list_of_one};
 use crate::message::{push_help, race_message};
 use crate::object::Object;
-use crate::place::{Place, locations_value, place_at, place_of, text_value};
+use crate::place::{Place, location_value, message_value, place_at, place_of};
 use crate::reading::{count_at, member_at, text_at, words_at};
-use crate::related::related_values;
+use crate::related::related_list;
 use crate::rule::Rule;
-use serde_json::{Map, Value};
+use crate::words::Words;
+use serde_json::Value;
 use std::alloc::{AllocError, Global};
 
-/// A result.
-fn result_value(
-    alloc: Global,
-    rule: Rule,
-    message: Value,
-    place: &Place<'_>,
-    related: Vec<Value>,
-    properties: Value,
-    times: u64,
-) -> Result<Value, AllocError>
-    ensures { IfOk result (λ value. view value ≡ result_told rule (view message) (place_parts place.now) (map view related.items) (view properties) times) }
+/// The part of a result that says which rule is broken, where, and how often.
+fn begin_result(alloc: Global, rule: Rule, place: &Place<'_>, times: u64) -> Object
+    ensures { Makes result (result_members rule (place_parts place.now) times) }
 {
     Object::new(alloc)
-        .with("message", message)
-        .with("properties", properties)
-        .with("relatedLocations", Value::Array(related))
-        .with_made("locations", locations_value(alloc, place))
-        .with("occurrenceCount", Value::from(times))
         .with_text("level", rule.level())
-        .with_text("ruleId", rule.id())
+        .with_made(
+            "locations",
+            list_of_one(alloc, location_value(alloc, place)),
+        )
+        .with("occurrenceCount", Value::from(times))
+        .with_text("ruleId", rule.texts().id)
         .with("ruleIndex", Value::from(rule.number()))
-        .finish()
 }
 
 /// What a race has that no other member of a result tells.
 fn race_properties(alloc: Global, race: &Value) -> Result<Value, AllocError>
     ensures { IfOk result (λ value. view value ≡ race_properties (view race.now)) }
 {
+    let refused = access_at(race, "refused");
+    let witness = access_at(race, "witness");
     Object::new(alloc)
         .with("group", Value::from(count_at(race, "group")))
         .with_text("kind", words_at(race, "kind"))
         .with_made("locations", member_at(alloc, race, "locations"))
-        .with(
-            "refusedFurther",
-            Value::from(access_at(race, "refused").further),
-        )
+        .with("refusedFurther", Value::from(refused.further))
         .with_made("spawnLine", member_at(alloc, race, "spawn_line"))
-        .with(
-            "witnessFurther",
-            Value::from(access_at(race, "witness").further),
-        )
+        .with("witnessFurther", Value::from(witness.further))
         .finish()
 }
 
@@ -66,43 +55,28 @@ fn race_properties(alloc: Global, race: &Value) -> Result<Value, AllocError>
 pub(crate) fn race_result(alloc: Global, race: &Value) -> Result<Value, AllocError>
     ensures { IfOk result (λ value. view value ≡ race_result (view race.now)) }
 {
-    let message = race_message(alloc, race)?;
-    let related = related_values(alloc, race)?;
-    let properties = race_properties(alloc, race)?;
-    result_value(
-        alloc,
-        Rule::named(words_at(race, "rule")),
-        message,
-        &access_at(race, "refused").place,
-        related,
-        properties,
-        count_at(race, "times"),
-    )
-}
-
-/// The message of a warning.
-fn warning_message(alloc: Global, warning: &Value) -> Result<Value, AllocError>
-    ensures { IfOk result (λ value. view value ≡ text_told (warning_words (view warning.now))) }
-{
-    let words = [words_at(warning, "message"), "."].concat(alloc)?;
-    text_value(alloc, words.as_str())
+    let rule = Rule::named(words_at(race, "rule"));
+    let refused = access_at(race, "refused");
+    begin_result(alloc, rule, &refused.place, count_at(race, "times"))
+        .with_made("message", race_message(alloc, race))
+        .with_made("properties", race_properties(alloc, race))
+        .with_made("relatedLocations", related_list(alloc, race))
+        .finish()
 }
 
 /// The result of a warning.
 pub(crate) fn warning_result(alloc: Global, warning: &Value) -> Result<Value, AllocError>
     ensures { IfOk result (λ value. view value ≡ warning_result (view warning.now)) }
 {
-    let message = warning_message(alloc, warning)?;
-    let properties = Value::Object(Map::new(alloc));
-    result_value(
-        alloc,
-        Rule::named(words_at(warning, "rule")),
-        message,
-        &place_at(warning, "place"),
-        Vec::new(alloc),
-        properties,
-        1,
-    )
+    let mut message = Words::new(alloc);
+    message.push(words_at(warning, "message"));
+    message.push(".");
+    let rule = Rule::named(words_at(warning, "rule"));
+    begin_result(alloc, rule, &place_at(warning, "place"), 1)
+        .with_made("message", message_value(alloc, message))
+        .with_made("properties", Object::new(alloc).finish())
+        .with_made("relatedLocations", ValueList::new(alloc).finish())
+        .finish()
 }
 
 /// The first line of a text.
@@ -125,73 +99,32 @@ fn behind_word(line: &str) -> &str
     }
 }
 
-/// The title of what a person is told of a fault: what stands in its first line behind the first word.
-fn title_of(rendered: &str) -> &str
-    ensures { result.now ≡ title_of rendered.now }
+/// A message in words, and as a person is told it, as a block of code of Markdown.
+fn tell_twice(alloc: Global, words: Words, rendered: &str) -> Result<Value, AllocError>
+    ensures { IfOk result (λ value. option_map (λ said. told_twice said rendered.now) words ≡ Some (view value)) }
 {
-    behind_word(first_line(rendered))
-}
-
-/// What a person is told, as a block of code of Markdown.
-fn quote_rendered(alloc: Global, rendered: &str) -> Result<String, AllocError>
-    ensures { IfOk result (λ text. string_bytes text ≡ quoted rendered.now) }
-{
-    ["```\n", rendered, "```"].concat(alloc)
-}
-
-/// A message in words, and as a person is told it.
-fn tell_twice(alloc: Global, words: &str, rendered: &str) -> Result<Value, AllocError>
-    ensures { IfOk result (λ value. view value ≡ told_twice words.now rendered.now) }
-{
-    let markdown = quote_rendered(alloc, rendered)?;
+    let mut markdown = Words::new(alloc);
+    markdown.push_three("```\n", rendered, "```");
     Object::new(alloc)
-        .with_text("text", words)
-        .with("markdown", Value::from(markdown))
+        .with_made("markdown", markdown.end())
+        .with_made("text", words.end())
         .finish()
 }
 
-/// The message of a fault: its title as a sentence, and as a person is told it.
-fn fault_message(alloc: Global, rendered: &str) -> Result<Value, AllocError>
-    ensures { IfOk result (λ value. view value ≡ told_twice (fault_words rendered.now) rendered.now) }
-{
-    let words = [title_of(rendered), "."].concat(alloc)?;
-    tell_twice(alloc, words.as_str(), rendered)
-}
-
-/// What a fault has that no other member of a result tells.
-fn fault_properties(alloc: Global, fault: &Value) -> Result<Value, AllocError>
-    ensures { IfOk result (λ value. view value ≡ fault_properties (view fault.now)) }
-{
-    Object::new(alloc)
-        .with_text("cause", words_at(fault, "cause"))
-        .finish()
-}
-
-/// The result of a fault of a text.
+/// The result of a fault of a text. Its message is the title of what a person is told, which stands in the first line behind the first word.
 pub(crate) fn fault_result(alloc: Global, fault: &Value) -> Result<Value, AllocError>
     ensures { IfOk result (λ value. view value ≡ fault_result (view fault.now)) }
 {
-    let message = fault_message(alloc, words_at(fault, "rendered"))?;
-    let properties = fault_properties(alloc, fault)?;
-    result_value(
-        alloc,
-        Rule::TextFault,
-        message,
-        &place_of(fault),
-        Vec::new(alloc),
-        properties,
-        1,
-    )
-}
-
-/// The message of an illegal request.
-fn illegal_message(alloc: Global, request: &Value) -> Result<Value, AllocError>
-    ensures { IfOk result (λ value. view value ≡
-        told_twice (illegal_words (view request.now)) (words_at (codes "rendered") (view request.now))) }
-{
-    let mut words = [words_at(request, "message"), "."].concat(alloc)?;
-    push_help(&mut words, text_at(request, "help"))?;
-    tell_twice(alloc, words.as_str(), words_at(request, "rendered"))
+    let rendered = words_at(fault, "rendered");
+    let mut message = Words::new(alloc);
+    message.push(behind_word(first_line(rendered)));
+    message.push(".");
+    let properties = Object::new(alloc).with_text("cause", words_at(fault, "cause"));
+    begin_result(alloc, Rule::TextFault, &place_of(fault), 1)
+        .with_made("message", tell_twice(alloc, message, rendered))
+        .with_made("properties", properties.finish())
+        .with_made("relatedLocations", ValueList::new(alloc).finish())
+        .finish()
 }
 
 /// What an illegal request has that no other member of a result tells.
@@ -208,15 +141,14 @@ fn illegal_properties(alloc: Global, request: &Value) -> Result<Value, AllocErro
 pub(crate) fn illegal_result(alloc: Global, request: &Value) -> Result<Value, AllocError>
     ensures { IfOk result (λ value. view value ≡ illegal_result (view request.now)) }
 {
-    let message = illegal_message(alloc, request)?;
-    let properties = illegal_properties(alloc, request)?;
-    result_value(
-        alloc,
-        Rule::IllegalRequest,
-        message,
-        &place_of(request),
-        Vec::new(alloc),
-        properties,
-        1,
-    )
+    let mut message = Words::new(alloc);
+    message.push(words_at(request, "message"));
+    message.push(".");
+    push_help(&mut message, text_at(request, "help"));
+    let rendered = words_at(request, "rendered");
+    begin_result(alloc, Rule::IllegalRequest, &place_of(request), 1)
+        .with_made("message", tell_twice(alloc, message, rendered))
+        .with_made("properties", illegal_properties(alloc, request))
+        .with_made("relatedLocations", ValueList::new(alloc).finish())
+        .finish()
 }

@@ -1,10 +1,12 @@
 //! The rules of a log.
 
-ghost use Rattle.std.specs.Prelude.{◌≡◌, IfOk, map};
+ghost use Rattle.std.specs.Prelude.{◌≡◌, IfOk};
 ghost use Rattle.std.specs.List.{find};
 ghost use Rattle.serde_json.specs.View.{view};
-ghost use Rattle.sarif_logs.specs.Rules.{id, name, summary, description, help, level, number, all_rules, level_told, rule_told, rules_told, rule_named, is_named};
+ghost use Rattle.sarif_logs.specs.Rules.{texts, level, number, level_told, rule_told, rules_told, rule_named, is_named};
+ghost use Rattle.sarif_logs.specs.RuleViews.{text_parts};
 
+use crate::list::ValueList;
 use crate::object::Object;
 use crate::place::text_value;
 use serde_json::Value;
@@ -46,107 +48,90 @@ const RULES: &[Rule] = &[
     Rule::WrappedIndex,
 ];
 
-impl Rule {
+/// What the log says of a rule.
+#[derive(Clone, Copy)]
+pub(crate) struct Texts {
     /// The name by which results, and the records of races and warnings, call the rule.
-    pub(crate) fn id(self) -> &'static str
-        ensures { result.now ≡ id self }
-    {
-        match self {
-            Rule::DeterminacyRace => "determinacy-race",
-            Rule::ViewReadRace => "view-read-race",
-            Rule::UnsetGet => "unset-get",
-            Rule::TextFault => "text-fault",
-            Rule::IllegalRequest => "illegal-request",
-            Rule::DeclaredRegister => "declared-register",
-            Rule::UnreachedFunction => "unreached-function",
-            Rule::UnputReducer => "unput-reducer",
-            Rule::WrappedIndex => "wrapped-index",
-        }
-    }
-
+    pub(crate) id: &'static str,
     /// The name that people read.
-    fn name(self) -> &'static str
-        ensures { result.now ≡ name self }
-    {
-        match self {
-            Rule::DeterminacyRace => "DeterminacyRace",
-            Rule::ViewReadRace => "ViewReadRace",
-            Rule::UnsetGet => "UnsetGet",
-            Rule::TextFault => "TextFault",
-            Rule::IllegalRequest => "IllegalRequest",
-            Rule::DeclaredRegister => "DeclaredRegister",
-            Rule::UnreachedFunction => "UnreachedFunction",
-            Rule::UnputReducer => "UnputReducer",
-            Rule::WrappedIndex => "WrappedIndex",
-        }
-    }
-
+    name: &'static str,
     /// What is wrong, in a few words.
-    fn summary(self) -> &'static str
-        ensures { result.now ≡ summary self }
-    {
-        match self {
-            Rule::DeterminacyRace => "Two accesses of one cell may run in either order.",
-            Rule::ViewReadRace => "A reducer is read with other peers than before.",
-            Rule::UnsetGet => "A reducer is read before it is put.",
-            Rule::TextFault => "The text means no program and no trace.",
-            Rule::IllegalRequest => "A request of the trace is illegal.",
-            Rule::DeclaredRegister => "A register bears the name of a memory or a reducer.",
-            Rule::UnreachedFunction => "A function is never reached.",
-            Rule::UnputReducer => "A reducer is read and never put.",
-            Rule::WrappedIndex => "An index wraps at the length of its array.",
-        }
-    }
-
+    summary: &'static str,
     /// What is wrong, in full.
-    fn description(self) -> &'static str
-        ensures { result.now ≡ description self }
-    {
-        match self {
-            Rule::DeterminacyRace => {
-                "Two strands that may run at the same time access one cell, and the order of the two accesses matters. So two runs of the program may differ."
-            }
-            Rule::ViewReadRace => {
-                "Two reads of one reducer are of strands with different peers: other strands may run at the same time as one than as the other. What a read finds may depend on the schedule."
-            }
-            Rule::UnsetGet => "A get of a reducer comes before any granted put or get of it.",
-            Rule::TextFault => {
-                "A line of the text breaks the rules of programs or of traces. So nothing was run or judged."
-            }
-            Rule::IllegalRequest => {
-                "No history allows the request at its place. So the requests behind it were not judged."
-            }
-            Rule::DeclaredRegister => {
-                "A register is another thing than the memory or reducer of the same name: assigning it writes no cell."
-            }
-            Rule::UnreachedFunction => "No spawn or call leads from main to the function.",
-            Rule::UnputReducer => {
-                "No function that main reaches puts the reducer, so each get of it is refused as unset."
-            }
-            Rule::WrappedIndex => {
-                "The index is not below the length of the array, and means its remainder by the length."
-            }
-        }
-    }
-
+    description: &'static str,
     /// What to do.
-    fn help(self) -> &'static str
-        ensures { result.now ≡ help self }
+    help: &'static str,
+}
+
+impl Rule {
+    /// What the log says of it.
+    pub(crate) fn texts(self) -> Texts
+        ensures { text_parts result ≡ texts self }
     {
         match self {
-            Rule::DeterminacyRace => {
-                "Order the two by a sync, give each strand a cell of its own, or use a reducer."
-            }
-            Rule::ViewReadRace => "Move the read behind the sync that waits for the spawn.",
-            Rule::UnsetGet => "Put a value into the reducer first, in the serial order.",
-            Rule::TextFault => "Write the line as the message says.",
-            Rule::IllegalRequest => "Record the trace again, or mend the request.",
-            Rule::DeclaredRegister => {
-                "Access the memory or reducer by a request, or give the register another name."
-            }
-            Rule::UnreachedFunction => "Spawn the function, call it, or leave it out.",
-            Rule::UnputReducer => "Put a value into the reducer first.",
-            Rule::WrappedIndex => "Write an index below the length.",
+            Rule::DeterminacyRace => Texts {
+                id: "determinacy-race",
+                name: "DeterminacyRace",
+                summary: "Two accesses of one cell may run in either order.",
+                description: "Two strands that may run at the same time access one cell, and the order of the two accesses matters. So two runs of the program may differ.",
+                help: "Order the two by a sync, give each strand a cell of its own, or use a reducer.",
+            },
+            Rule::ViewReadRace => Texts {
+                id: "view-read-race",
+                name: "ViewReadRace",
+                summary: "A reducer is read with other peers than before.",
+                description: "Two reads of one reducer are of strands with different peers: other strands may run at the same time as one than as the other. What a read finds may depend on the schedule.",
+                help: "Move the read behind the sync that waits for the spawn.",
+            },
+            Rule::UnsetGet => Texts {
+                id: "unset-get",
+                name: "UnsetGet",
+                summary: "A reducer is read before it is put.",
+                description: "A get of a reducer comes before any granted put or get of it.",
+                help: "Put a value into the reducer first, in the serial order.",
+            },
+            Rule::TextFault => Texts {
+                id: "text-fault",
+                name: "TextFault",
+                summary: "The text means no program and no trace.",
+                description: "A line of the text breaks the rules of programs or of traces. So nothing was run or judged.",
+                help: "Write the line as the message says.",
+            },
+            Rule::IllegalRequest => Texts {
+                id: "illegal-request",
+                name: "IllegalRequest",
+                summary: "A request of the trace is illegal.",
+                description: "No history allows the request at its place. So the requests behind it were not judged.",
+                help: "Record the trace again, or mend the request.",
+            },
+            Rule::DeclaredRegister => Texts {
+                id: "declared-register",
+                name: "DeclaredRegister",
+                summary: "A register bears the name of a memory or a reducer.",
+                description: "A register is another thing than the memory or reducer of the same name: assigning it writes no cell.",
+                help: "Access the memory or reducer by a request, or give the register another name.",
+            },
+            Rule::UnreachedFunction => Texts {
+                id: "unreached-function",
+                name: "UnreachedFunction",
+                summary: "A function is never reached.",
+                description: "No spawn or call leads from main to the function.",
+                help: "Spawn the function, call it, or leave it out.",
+            },
+            Rule::UnputReducer => Texts {
+                id: "unput-reducer",
+                name: "UnputReducer",
+                summary: "A reducer is read and never put.",
+                description: "No function that main reaches puts the reducer, so each get of it is refused as unset.",
+                help: "Put a value into the reducer first.",
+            },
+            Rule::WrappedIndex => Texts {
+                id: "wrapped-index",
+                name: "WrappedIndex",
+                summary: "An index wraps at the length of its array.",
+                description: "The index is not below the length of the array, and means its remainder by the length.",
+                help: "Write an index below the length.",
+            },
         }
     }
 
@@ -196,7 +181,7 @@ impl Rule {
 fn is_named(rule: Rule, id: &str) -> bool
     ensures { result ≡ is_named id.now rule }
 {
-    id == rule.id()
+    id == rule.texts().id
 }
 
 /// The first of these rules that has this id.
@@ -222,30 +207,24 @@ fn level_value(alloc: Global, rule: Rule) -> Result<Value, AllocError>
 fn rule_value(alloc: Global, rule: Rule) -> Result<Value, AllocError>
     ensures { IfOk result (λ value. view value ≡ rule_told rule) }
 {
+    let texts = rule.texts();
     Object::new(alloc)
         .with_made("defaultConfiguration", level_value(alloc, rule))
-        .with_made("fullDescription", text_value(alloc, rule.description()))
-        .with_made("help", text_value(alloc, rule.help()))
-        .with_text("id", rule.id())
-        .with_text("name", rule.name())
-        .with_made("shortDescription", text_value(alloc, rule.summary()))
+        .with_made("fullDescription", text_value(alloc, texts.description))
+        .with_made("help", text_value(alloc, texts.help))
+        .with_text("id", texts.id)
+        .with_text("name", texts.name)
+        .with_made("shortDescription", text_value(alloc, texts.summary))
         .finish()
-}
-
-/// Rules as the log describes them.
-fn rule_values(alloc: Global, rules: &[Rule]) -> Result<Vec<Value>, AllocError>
-    ensures { IfOk result (λ values. map view values.items ≡ map rule_told rules.now) }
-{
-    let mut values = Vec::new(alloc);
-    for rule in rules {
-        values.push(rule_value(alloc, *rule)?)?;
-    }
-    Ok(values)
 }
 
 /// All rules as the log describes them.
 pub(crate) fn rules_value(alloc: Global) -> Result<Value, AllocError>
     ensures { IfOk result (λ value. view value ≡ rules_told) }
 {
-    Ok(Value::from(rule_values(alloc, RULES)?))
+    let mut list = ValueList::new(alloc);
+    for rule in RULES {
+        list.push(rule_value(alloc, *rule));
+    }
+    list.finish()
 }
