@@ -5,3 +5,4 @@ mod Named
 mod Colons
 mod Together
 mod PlainLists
+mod Copied

@@ -1,7 +1,7 @@
 -- What is told of a run or of traces, as one value.
 use Rattle.std.specs.Prelude.{ℕ, ◌≡◌, false, List, [], codes, length, map, take, Option, Some}
 use Rattle.std.specs.Global.{Global}
-use Rattle.serde_json.specs.Data.{Data, Members, null, string, object, member, no_members}
+use Rattle.serde_json.specs.Data.{Data, null, string, object, member, no_members}
 use Rattle.model_histories.specs.declared.answer.Entry.{Entry}
 use Rattle.trace_notes.specs.declared.notes.Notes.{Notes}
 use Rattle.trace_notes.specs.Notes.{kept_runs}
@@ -39,16 +39,6 @@ pub record SummaryParts : Type 0 where
   pub refusals : ℕ
   pub requests : ℕ
   pub traces : ℕ
-
--- the members that say how a run or traces came out
-abbrev pub summary_members : SummaryParts → Members
-summary_members summary =
-    member (codes "outcome") (string (outcome_word summary.outcome))
-    (member (codes "pairs") (number_or_null summary.pairs)
-    (member (codes "refusals") (count_told summary.refusals)
-    (member (codes "requests") (count_told summary.requests)
-    (member (codes "traces") (count_told summary.traces)
-    (member (codes "version") (count_told 1) no_members)))))
 
 -- the races with the summary, the final memory, what was recorded, the files of which not all pairs are told, and the warnings
 abbrev pub document_told : SummaryParts → (memory : Data) → (races : List Data) → (recorded : List (List ℕ)) → (untold : List Data) → Warned → Data

@@ -1,6 +1,6 @@
 //! An access, and the spawns and calls that led there.
 
-ghost use Rattle.std.specs.Prelude.{◌≡◌, IfOk, map, take};
+ghost use Rattle.std.specs.Prelude.{◌≡◌, IfOk, take};
 ghost use Rattle.serde_json.specs.View.{view};
 ghost use Rattle.race_explanations.specs.Scenes.{setting_of};
 ghost use Rattle.race_records.specs.Values.{list_told};
@@ -37,27 +37,16 @@ fn link_value(alloc: Global, scene: &Scene<'_, '_>, link: Link) -> Result<Value,
         .finish()
 }
 
-/// Spawns and calls on the way to an access.
-fn link_values(
-    alloc: Global,
-    scene: &Scene<'_, '_>,
-    chain: &[Link],
-) -> Result<Vec<Value>, AllocError>
-    ensures { IfOk result (λ values. map view values.items ≡ map (link_told (setting_of scene.now)) chain.now) }
-{
-    let mut values = Vec::new(alloc);
-    for link in chain {
-        values.push(link_value(alloc, scene, *link)?)?;
-    }
-    Ok(values)
-}
-
 /// The innermost spawns and calls on the way to an access.
 fn within_value(alloc: Global, scene: &Scene<'_, '_>, chain: &[Link]) -> Result<Value, AllocError>
     ensures { IfOk result (λ value. view value ≡ list_told (link_told (setting_of scene.now)) (take 8 chain.now)) }
 {
     let (told, _) = chain.split_at(chain.len().min(LINKS));
-    Ok(Value::from(link_values(alloc, scene, told)?))
+    let mut values = Vec::new(alloc);
+    for link in told {
+        values.push(link_value(alloc, scene, *link)?)?;
+    }
+    Ok(Value::from(values))
 }
 
 /// The access that is the entry with this number, with the innermost of the spawns and calls that led there.

@@ -1,78 +1,18 @@
 //! Where two strands part, and what would order them.
 
-ghost use Rattle.std.specs.Prelude.{◌≡◌, Some, IfOk};
+ghost use Rattle.std.specs.Prelude.{◌≡◌, IfOk};
 ghost use Rattle.serde_json.specs.View.{view};
-ghost use Rattle.sarif_logs.specs.Objects.{made, Puts};
 ghost use Rattle.race_explanations.specs.Scenes.{setting_of};
-ghost use Rattle.race_explanations.specs.Advice.{line_on};
-ghost use Rattle.race_records.specs.Sites.{site_told};
-ghost use Rattle.race_records.specs.Advice.{parting_told, outstanding_told, onward_line};
 ghost use Rattle.race_records.specs.Advice.{help_told, parting_of, outstanding_of};
 
 use crate::access::place_value;
 use crate::site::line_value;
 use crate::value::text_value;
 use race_explanations::{Scene, help_of, line_of, line_on};
-use race_pairs::{Encounter, OpenSpawn, Pair, Parting, Reason};
+use race_pairs::{Encounter, Pair, Reason};
 use sarif_logs::Object;
 use serde_json::Value;
 use std::alloc::{AllocError, Global};
-
-/// An object with where a line stands as a further member.
-fn with_line(object: Object, alloc: Global, scene: &Scene<'_, '_>, key: &str, line: u32) -> Object
-    ensures { Puts (made object) key.now (Some (site_told (setting_of scene.now).origin line)) (made result) }
-{
-    object.with_made(key, line_value(alloc, scene, line))
-}
-
-/// The spawn where two strands part, and whither its child and its next strand come.
-fn parting_value(
-    alloc: Global,
-    scene: &Scene<'_, '_>,
-    pair: &Pair,
-    refused: u32,
-    onward: u32,
-    parting: Option<Parting>,
-) -> Result<Value, AllocError>
-    ensures { IfOk result (λ value. view value ≡ parting_told (setting_of scene.now) pair.now refused onward parting) }
-{
-    let Some(parting) = parting else {
-        return Ok(Value::Null);
-    };
-    let child = line_on(pair, refused, parting.by_child);
-    let object = with_line(Object::new(alloc), alloc, scene, "child", child);
-    with_line(object, alloc, scene, "next", onward)
-        .with_made("spawn", place_value(alloc, scene, parting.entry))
-        .finish()
-}
-
-/// The spawn that is outstanding at one of two reads and not at the other.
-fn outstanding_value(
-    alloc: Global,
-    scene: &Scene<'_, '_>,
-    pair: &Pair,
-    refused: u32,
-    spawn: Option<OpenSpawn>,
-) -> Result<Value, AllocError>
-    ensures { IfOk result (λ value. view value ≡ outstanding_told (setting_of scene.now) pair.now refused spawn) }
-{
-    let Some(spawn) = spawn else {
-        return Ok(Value::Null);
-    };
-    let at = line_on(pair, refused, spawn.parallel);
-    let not_at = line_on(pair, refused, spawn.ordered);
-    let object = with_line(Object::new(alloc), alloc, scene, "at", at);
-    with_line(object, alloc, scene, "not_at", not_at)
-        .with_made("spawn", place_value(alloc, scene, spawn.entry))
-        .finish()
-}
-
-/// Where the next strand of the spawn goes on.
-fn onward_line(scene: &Scene<'_, '_>, encounter: &Encounter) -> u32
-    ensures { result ≡ onward_line (setting_of scene.now) encounter.now }
-{
-    line_of(scene, encounter.onward.unwrap_or(0))
-}
 
 /// What orders the two.
 pub(crate) fn help_value(
@@ -90,7 +30,7 @@ pub(crate) fn help_value(
     }
 }
 
-/// Where the two strands of a race part.
+/// The spawn where the two strands of a race part, and whither its child and its next strand come.
 pub(crate) fn parting_of(
     alloc: Global,
     scene: &Scene<'_, '_>,
@@ -99,17 +39,21 @@ pub(crate) fn parting_of(
 ) -> Result<Value, AllocError>
     ensures { IfOk result (λ value. view value ≡ parting_of pair.now.lines.reason (setting_of scene.now) pair.now encounter.now) }
 {
-    match pair.lines.reason {
-        Reason::Race { .. } => {
-            let onward = onward_line(scene, encounter);
-            let refused = encounter.refused.strand;
-            parting_value(alloc, scene, pair, refused, onward, encounter.parting)
+    match (pair.lines.reason, encounter.parting) {
+        (Reason::Race { .. }, Some(parting)) => {
+            let child = line_on(pair, encounter.refused.strand, parting.by_child);
+            let next = line_of(scene, encounter.onward.unwrap_or(0));
+            Object::new(alloc)
+                .with_made("child", line_value(alloc, scene, child))
+                .with_made("next", line_value(alloc, scene, next))
+                .with_made("spawn", place_value(alloc, scene, parting.entry))
+                .finish()
         }
-        Reason::ViewRead | Reason::Unset => Ok(Value::Null),
+        _ => Ok(Value::Null),
     }
 }
 
-/// The spawn that makes the peers of the two reads of a view-read race differ.
+/// The spawn that makes the peers of the two reads of a view-read race differ: it is outstanding at one of them and not at the other.
 pub(crate) fn outstanding_of(
     alloc: Global,
     scene: &Scene<'_, '_>,
@@ -118,11 +62,16 @@ pub(crate) fn outstanding_of(
 ) -> Result<Value, AllocError>
     ensures { IfOk result (λ value. view value ≡ outstanding_of pair.now.lines.reason (setting_of scene.now) pair.now encounter.now) }
 {
-    match pair.lines.reason {
-        Reason::ViewRead => {
-            let refused = encounter.refused.strand;
-            outstanding_value(alloc, scene, pair, refused, encounter.outstanding)
+    match (pair.lines.reason, encounter.outstanding) {
+        (Reason::ViewRead, Some(spawn)) => {
+            let at = line_on(pair, encounter.refused.strand, spawn.parallel);
+            let not_at = line_on(pair, encounter.refused.strand, spawn.ordered);
+            Object::new(alloc)
+                .with_made("at", line_value(alloc, scene, at))
+                .with_made("not_at", line_value(alloc, scene, not_at))
+                .with_made("spawn", place_value(alloc, scene, spawn.entry))
+                .finish()
         }
-        Reason::Race { .. } | Reason::Unset => Ok(Value::Null),
+        _ => Ok(Value::Null),
     }
 }

@@ -10,18 +10,17 @@ ghost use Rattle.race_pairs.specs.Digests.{IsDigest, most_of};
 ghost use Rattle.program_text.specs.Programs.{contents};
 ghost use Rattle.trace_text.specs.Traces.{contents as trace_contents};
 ghost use Rattle.serde_json.specs.View.{view};
-ghost use Rattle.sarif_logs.specs.Objects.{Makes};
 ghost use Rattle.race_explanations.specs.Scenes.{setting_of};
 ghost use Rattle.race_explanations.specs.Explained.{program_file, trace_setting};
 ghost use Rattle.race_explanations.specs.Extents.{most_pairs};
 ghost use Rattle.race_records.specs.Races.{case_told, told_at, places_told, group_told, groups_told};
-ghost use Rattle.race_records.specs.Documents.{summary_members, document_told, summary_of, end_of_trace, run_parts, RecordsEntries, RecordsRun, outcome_word};
+ghost use Rattle.race_records.specs.Documents.{document_told, summary_of, end_of_trace, run_parts, RecordsEntries, RecordsRun, outcome_word};
 ghost use Rattle.race_records.specs.WarnedViews.{warned_parts};
 ghost use Rattle.race_records.specs.SummaryViews.{summary_parts};
 
 use crate::form::{RecordForm, record_text};
 use crate::race::case_value;
-use crate::value::{size_or_null, texts_value, with_copy};
+use crate::value::{size_or_null, texts_value};
 use crate::warning::{Warned, none_warned, tell_warnings_in};
 use program_text::Program;
 use program_warnings::Wraps;
@@ -67,19 +66,6 @@ fn outcome_word(outcome: Outcome) -> &'static str
     }
 }
 
-/// The part of what is told that says how it came out.
-fn begin_document(alloc: Global, summary: Summary) -> Object
-    ensures { Makes result (summary_members (summary_parts summary)) }
-{
-    Object::new(alloc)
-        .with_text("outcome", outcome_word(summary.outcome))
-        .with("pairs", size_or_null(summary.pairs))
-        .with("refusals", Value::from(summary.refusals))
-        .with("requests", Value::from(summary.requests))
-        .with("traces", Value::from(summary.traces))
-        .with("version", Value::from(1_u8))
-}
-
 /// All that is told, as one value.
 pub(crate) fn document_value(
     alloc: Global,
@@ -93,12 +79,18 @@ pub(crate) fn document_value(
     ensures { IfOk result (λ value. view value ≡ document_told (summary_parts summary) (view memory) (map view races.items)
         (map string_bytes recorded.now) (map view untold.items) (warned_parts warned.now)) }
 {
-    let object = begin_document(alloc, summary)
+    Object::new(alloc)
+        .with_text("outcome", outcome_word(summary.outcome))
+        .with("pairs", size_or_null(summary.pairs))
+        .with("refusals", Value::from(summary.refusals))
+        .with("requests", Value::from(summary.requests))
+        .with("traces", Value::from(summary.traces))
+        .with("version", Value::from(1_u8))
         .with("memory", memory)
         .with("races", Value::from(races))
         .with("untold", Value::from(untold))
-        .with_made("recorded", texts_value(alloc, recorded));
-    with_copy(object, "warnings", &warned.warnings)
+        .with_made("recorded", texts_value(alloc, recorded))
+        .with_made("warnings", warned.warnings.clone())
         .with("warned", Value::from(warned.count))
         .finish()
 }

@@ -1,6 +1,6 @@
 //! What is told of a pair of places that raced.
 
-ghost use Rattle.std.specs.Prelude.{◌≡◌, ℕ, List, IfOk, map, string_bytes, if◌then◌else◌};
+ghost use Rattle.std.specs.Prelude.{◌≡◌, ℕ, List, IfOk, map, if◌then◌else◌};
 ghost use Rattle.std.specs.Global.{Vec};
 ghost use Rattle.serde_json.specs.Data.{string};
 ghost use Rattle.serde_json.specs.View.{view};
@@ -12,7 +12,7 @@ ghost use Rattle.race_records.specs.RaceViews.{race_parts};
 
 use crate::access::access_value;
 use crate::advice::{help_value, outstanding_of, parting_of};
-use crate::value::{count_or_null, text_value, with_copy};
+use crate::value::{count_or_null, text_value};
 use access_table::word;
 use race_explanations::{Case, Scene, display_names};
 use race_pairs::{Encounter, Pair, Reason};
@@ -60,17 +60,6 @@ pub(crate) fn rule_word(reason: Reason) -> &'static str
         Reason::Race { .. } => "determinacy-race",
         Reason::ViewRead => "view-read-race",
         Reason::Unset => "unset-get",
-    }
-}
-
-/// What was wrong, in one word.
-pub(crate) fn kind_word(alloc: Global, reason: Reason) -> Result<String, AllocError>
-    ensures { IfOk result (λ kind. string_bytes kind ≡ kind_word reason) }
-{
-    match reason {
-        Reason::Race { earlier, refused } => { [word(earlier), "-", word(refused)].concat(alloc) }
-        Reason::ViewRead => String::from_str(alloc, "view-read"),
-        Reason::Unset => String::from_str(alloc, "unset"),
     }
 }
 
@@ -147,22 +136,30 @@ fn names_value(alloc: Global, names: &BTreeSet<Vec<u8>>) -> Result<Value, AllocE
     Ok(Value::from(values))
 }
 
-/// What was wrong, in one word, as a value.
+/// What was wrong, in one word.
 fn kind_value(alloc: Global, reason: Reason) -> Result<Value, AllocError>
     ensures { IfOk result (λ value. view value ≡ string (kind_word reason)) }
 {
-    Ok(Value::from(kind_word(alloc, reason)?))
+    match reason {
+        Reason::Race { earlier, refused } => {
+            let kind = [word(earlier), "-", word(refused)].concat(alloc)?;
+            Ok(Value::from(kind))
+        }
+        Reason::ViewRead => Value::try_from_str(alloc, "view-read"),
+        Reason::Unset => Value::try_from_str(alloc, "unset"),
+    }
 }
 
 /// The part of what is told of a pair that neither its names nor its group change.
 fn begin_race(alloc: Global, race: &Race) -> Object
     ensures { Makes result (race_members (race_parts race.now)) }
 {
-    let object = Object::new(alloc).with_made("kind", kind_value(alloc, race.reason));
-    let object = with_copy(object, "outstanding", &race.outstanding);
-    let object = with_copy(object, "parting", &race.parting);
-    let object = with_copy(object, "refused", &race.refused);
-    with_copy(object, "witness", &race.witness)
+    Object::new(alloc)
+        .with_made("kind", kind_value(alloc, race.reason))
+        .with_made("outstanding", race.outstanding.clone())
+        .with_made("parting", race.parting.clone())
+        .with_made("refused", race.refused.clone())
+        .with_made("witness", race.witness.clone())
         .with_text("rule", rule_word(race.reason))
         .with("spawn_line", count_or_null(race.spawn))
 }
@@ -189,7 +186,8 @@ pub(crate) fn race_value(
 ) -> Result<Value, AllocError>
     ensures { IfOk result (λ value. view value ≡ race_told (race_parts race.now) (map (λ (name : Vec ℕ). name.items) names.now.keys) times group is_sure) }
 {
-    with_copy(begin_race(alloc, race), "help", help_of(race, is_sure))
+    begin_race(alloc, race)
+        .with_made("help", help_of(race, is_sure).clone())
         .with_made("locations", names_value(alloc, names))
         .with("times", Value::from(times))
         .with("group", Value::from(group))

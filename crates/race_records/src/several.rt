@@ -21,7 +21,7 @@ ghost use Rattle.race_records.specs.SeveralViews.{kept_of, recorded_of};
 use crate::document::{Outcome, Summary, document_value};
 use crate::form::{RecordForm, record_text};
 use crate::race::{Race, race_of, race_value};
-use crate::value::with_bytes;
+use crate::value::text_value;
 use crate::warning::none_warned;
 use race_explanations::{
     Extent, Finding, FindingList, Scene, are_sure, finding_of, group_findings, most_pairs,
@@ -122,7 +122,8 @@ fn keep_all(
 fn untold_value(alloc: Global, file: &str, count: usize) -> Result<Value, AllocError>
     ensures { IfOk result (λ value. view value ≡ untold_told file.now count) }
 {
-    with_bytes(Object::new(alloc), alloc, "file", file.as_bytes())
+    Object::new(alloc)
+        .with_made("file", text_value(alloc, file.as_bytes()))
         .with("pairs", Value::from(count))
         .finish()
 }

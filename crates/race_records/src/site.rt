@@ -1,13 +1,11 @@
 //! Where a line stands.
 
-ghost use Rattle.std.specs.Prelude.{◌≡◌, ◌↔◌, Some, IfOk, IsTrue};
+ghost use Rattle.std.specs.Prelude.{◌≡◌, ◌↔◌, IfOk, IsTrue};
 ghost use Rattle.std.specs.Option.{option_map};
 ghost use Rattle.text_words.specs.Text.{BeginsWithDigit};
 ghost use Rattle.serde_json.specs.View.{view};
-ghost use Rattle.sarif_logs.specs.Objects.{made, Puts};
 ghost use Rattle.trace_notes.specs.Places.{place_parts};
 ghost use Rattle.race_explanations.specs.Scenes.{setting_of};
-ghost use Rattle.race_records.specs.Values.{text_or_null};
 ghost use Rattle.race_records.specs.Sites.{number_of, number_behind, location_by, location_of, marked_site, site_in, line_of_file, parts_told, site_told};
 ghost use Rattle.race_records.specs.SiteViews.{location_parts, site_parts};
 
@@ -151,20 +149,14 @@ pub(crate) fn site_in<'b>(scene: &'b Scene<'_, '_>, line: u32) -> Site<'b>
     }
 }
 
-/// An object with bytes as a text, where there are some, as a further member.
-fn with_text_or_null(object: Object, alloc: Global, key: &str, text: Option<&[u8]>) -> Object
-    ensures { Puts (made object) key.now (Some (text_or_null (option_map (λ text. text.now) text.entry))) (made result) }
-{
-    object.with_made(key, text_or_null(alloc, text))
-}
-
 /// A site as a value.
 fn site_value(alloc: Global, site: Site<'_>) -> Result<Value, AllocError>
     ensures { IfOk result (λ value. view value ≡ parts_told (site_parts site.entry)) }
 {
-    let object = with_text_or_null(Object::new(alloc), alloc, "code", site.code);
-    let object = with_text_or_null(object, alloc, "file", bytes_of(site.file));
-    with_text_or_null(object, alloc, "function", bytes_of(site.function))
+    Object::new(alloc)
+        .with_made("code", text_or_null(alloc, site.code))
+        .with_made("file", text_or_null(alloc, bytes_of(site.file)))
+        .with_made("function", text_or_null(alloc, bytes_of(site.function)))
         .with("column", count_or_null(site.column))
         .with("line", count_or_null(site.line))
         .finish()

@@ -12,7 +12,7 @@ ghost use Rattle.race_records.specs.Forms.{in_form};
 ghost use Rattle.race_records.specs.Unjudged.{cause_word, line_members, fault_told, RecordsFault, RecordsFaults, RecordsText, faulty_told, request_told, illegal_told};
 
 use crate::form::{RecordForm, record_text};
-use crate::value::with_bytes;
+use crate::value::text_value;
 use fault_lists::{Fault, list_others};
 use race_explanations::{
     Illegality, at_of, help_words, illegal_explanation, request_line, strand_of, title_words,
@@ -45,24 +45,11 @@ fn cause_word(why: Cause) -> &'static str
 fn quote_line(alloc: Global, file: &str, source: &Source<'_>, line: u32, rendered: &[u8]) -> Object
     ensures { Makes result (line_members file.now source.now line rendered.now) }
 {
-    let object = with_bytes(Object::new(alloc), alloc, "code", source.line(line));
-    let object = with_bytes(object, alloc, "file", file.as_bytes());
-    with_bytes(object, alloc, "rendered", rendered).with("line", Value::from(line))
-}
-
-/// A fault, with what a person is told of it.
-fn rendered_value(
-    alloc: Global,
-    file: &str,
-    source: &Source<'_>,
-    fault: Fault,
-    rendered: &[u8],
-) -> Result<Value, AllocError>
-    ensures { IfOk result (λ value. view value ≡ fault_told file.now source.now fault rendered.now) }
-{
-    quote_line(alloc, file, source, fault.line, rendered)
-        .with_text("cause", cause_word(fault.why))
-        .finish()
+    Object::new(alloc)
+        .with_made("code", text_value(alloc, source.line(line)))
+        .with_made("file", text_value(alloc, file.as_bytes()))
+        .with_made("rendered", text_value(alloc, rendered))
+        .with("line", Value::from(line))
 }
 
 /// What is told of a fault.
@@ -78,7 +65,9 @@ fn fault_value(
     ensures { IfOk result (λ value. RecordsFault file.now source.now fault (view value)) }
 {
     let rendered = fault_message(alloc, false, file, text, fault.line, fault.why, meant)?;
-    rendered_value(alloc, file, source, fault, rendered.as_slice())
+    quote_line(alloc, file, source, fault.line, rendered.as_slice())
+        .with_text("cause", cause_word(fault.why))
+        .finish()
 }
 
 /// Adds faults.

@@ -1,12 +1,10 @@
 //! Texts, numbers and lists as values.
 
-ghost use Rattle.std.specs.Prelude.{◌≡◌, Some, IfOk, map, string_bytes};
+ghost use Rattle.std.specs.Prelude.{◌≡◌, IfOk, map, string_bytes};
 ghost use Rattle.std.specs.Option.{option_map};
 ghost use Rattle.serde_json.specs.View.{view};
-ghost use Rattle.sarif_logs.specs.Objects.{made, Puts};
 ghost use Rattle.race_records.specs.Values.{text_told, text_or_null, number_or_null, list_told, IsTextOf};
 
-use sarif_logs::Object;
 use serde_json::Value;
 use std::alloc::{AllocError, Global};
 
@@ -25,20 +23,6 @@ pub(crate) fn text_or_null(alloc: Global, text: Option<&[u8]>) -> Result<Value, 
         Some(text) => text_value(alloc, text),
         None => Ok(Value::Null),
     }
-}
-
-/// An object with bytes as a text as a further member.
-pub(crate) fn with_bytes(object: Object, alloc: Global, key: &str, text: &[u8]) -> Object
-    ensures { Puts (made object) key.now (Some (text_told text.now)) (made result) }
-{
-    object.with_made(key, text_value(alloc, text))
-}
-
-/// An object with the copy of a value as a further member.
-pub(crate) fn with_copy(object: Object, key: &str, value: &Value) -> Object
-    ensures { Puts (made object) key.now (Some (view value.now)) (made result) }
-{
-    object.with_made(key, value.clone())
 }
 
 /// A number, where there is one.
