@@ -1,11 +1,12 @@
 -- The requests of a trace answered one after another.
-use Rattle.std.proofs.Common.{◌≡◌, ◌+◌, List, [], ◌∷◌, ◌++◌, length, map, refl, ap, sym, subst, arith, ◌∙◌}
+use Rattle.std.proofs.Common.{◌≡◌, ◌+◌, List, [], ◌∷◌, ◌++◌, ◌≤◌, length, map, reverse, refl, ap, sym, subst, arith, ◌∙◌}
 use Rattle.std.specs.List.{All}
-use Rattle.std.proofs.lemmas.List.{length-map, map-append}
+use Rattle.std.proofs.lemmas.List.{length-map, length-reverse, map-append, reverse-reverse}
 use Rattle.std.proofs.lemmas.List.Elements.{All-nil, All-push}
 use Rattle.model_accesses.specs.declared.request.Request.{Request}
 use Rattle.text_words.specs.declared.value.TraceLine.{TraceLine}
 use Rattle.text_words.specs.Values.{Contents}
+use Rattle.model_histories.specs.declared.answer.Entry.{Entry}
 use Rattle.model_histories.specs.declared.reply.Receipt.{Receipt}
 use Rattle.model_histories.specs.declared.reply.Reply.{Reply}
 use Rattle.model_histories.specs.declared.reply.Reply.TheVariants.{Done, Illegal}
@@ -15,8 +16,11 @@ use Rattle.model_histories.specs.Replies.{Judges, JudgesAll}
 use Rattle.model_histories.specs.Shapes.{Shape, most_entries}
 use Rattle.model_histories.specs.States.{GateState, opening}
 use Rattle.race_gate.proofs.Lists.{JudgesAll-more}
+use Rattle.race_pairs.specs.declared.digest.Digest.{Digest}
+use Rattle.race_pairs.specs.Digests.{IsDigest}
 use Rattle.command_streams.specs.Streams.{declared_shape, IsJudgedBy}
 use Rattle.tool_commands.specs.declared.ask.Stop.{Stop}
+use Rattle.tool_commands.specs.Digested.{IsDigested}
 use Rattle.tool_commands.specs.Replays.{IsDone, AnswersAll, StopsAt}
 use Rattle.command_streams.proofs.TakenLines.{requests_more}
 
@@ -77,3 +81,19 @@ limit_kept [] (reply ∷ replies) old new judges = absurd judges
 limit_kept (request ∷ requests) [] old new judges = absurd judges
 limit_kept (request ∷ requests) (reply ∷ replies) old new judges =
     limit_kept requests replies judges.0 new judges.2 ∙ limit_stays old judges.0 request reply judges.1
+
+-- the entries of a gate that answered all
+pub few_answered : (trace : Contents) (gate : GateState) (entries : List Entry) → AnswersAll trace gate → length gate.history ≤ gate.limit →
+    reverse entries ≡ gate.history → length entries ≤ most_entries
+few_answered trace gate entries answers within same =
+    let kept : gate.limit ≡ most_entries = limit_kept _ _ _ _ answers.judges.judges in
+    let long = ap length (sym same) ∙ length-reverse entries in omega (arith, kept, within, long)
+
+-- their digest is that of the trace
+pub digest_answered : (trace : Contents) (gate : GateState) (entries : List Entry) (digest : Digest) → AnswersAll trace gate → reverse entries ≡ gate.history →
+    IsDigest entries digest → IsDigested trace digest
+digest_answered trace gate entries digest answers same is = record {
+  gate = gate;
+  answers = answers;
+  digest_is = subst (λ (told : List Entry). IsDigest told digest) (sym (reverse-reverse entries) ∙ ap reverse same) is;
+}

@@ -17,6 +17,7 @@ mod DigestedSoFar
 mod DigestStatuses
 mod Unnoted
 mod Devices
+mod Ends
 mod ReadPrograms
 mod Taking
 mod TraceTexts

@@ -1,5 +1,5 @@
 -- What the lines of a text decide, one after another.
-use Rattle.std.proofs.Common.{◌≡◌, ℕ, false, List, [], ◌∷◌, Option, Some, None, map, refl, sym, ap, ◌∙◌, not, cond, filter}
+use Rattle.std.proofs.Common.{◌≡◌, ℕ, false, List, [], ◌∷◌, Option, Some, None, map, refl, sym, ap, ◌∙◌, cond, filter}
 use Rattle.std.specs.List.{before_first, find, slice_split}
 use Rattle.text_words.specs.Text.{is_hash, is_blank, is_nonempty, IsTextLine}
 use Rattle.std.specs.Option.{option_map, MatchOption}

@@ -1,11 +1,12 @@
 -- The traces in several files, one after another.
-use Rattle.std.proofs.Common.{◌≡◌, ℕ, ◌+◌, ◌<◌, ◌≤◌, Option, Some, None, List, [], ◌∷◌, ◌++◌, length, Err, IsErrOf, refl, take, drop, map, get_or, inr, sym, ap, subst, ◌∙◌}
+use Rattle.std.proofs.Common.{◌≡◌, ℕ, ◌+◌, ◌<◌, ◌≤◌, Option, Some, None, List, [], ◌∷◌, ◌++◌, length, Err, IsErrOf, refl, take, drop, map, get_or, inr, sym, ap, subst, ◌∙◌, inl, Bool, true, false, if◌then◌else◌, ◌==◌, ◌&&◌, arith, Result, Ok, IfErr}
 use Rattle.std.specs.Global.{Vec}
 use Rattle.std.proofs.lemmas.List.{take_more, take_all, drop_more, take-append-drop, map-append}
 use Rattle.command_streams.specs.declared.fault.CliFault.{CliFault}
 use Rattle.command_streams.specs.declared.fault.CliFault.TheVariants.{Read, Write, Memory}
 use Rattle.command_streams.specs.Readings.{reading}
 use Rattle.command_streams.specs.Streams.{IsRead, StopsWriting}
+use Rattle.tool_commands.specs.Explanations.{Manner, IsUnjudgedTold}
 use Rattle.tool_commands.specs.Together.{Together, TakesReading, StopsTaking}
 use Rattle.tool_commands.specs.Several.{Style, manner_in, AreTaken, more, TellsSeveral, StopsSeveral, HasSeveralCause}
 use Rattle.tool_commands.specs.Several.{lacks_first}
@@ -116,6 +117,11 @@ pub untold : {T : Type 0} (style : Style) (files : List ℕ → Option (List ℕ
 untold style files names wrote writes Write other stops = absurd (other refl)
 untold style files names wrote writes fault other stops = stops
 
+pub all_untold : {T : Type 0} (style : Style) (files : List ℕ → Option (List ℕ)) (names : List (List ℕ)) (wrote writes : Option (List ℕ)) (told : Result T CliFault) →
+    (IsErrOf told Write → ⊥) → IfErr told (StopsSeveral style files names) → IfErr told (HasSeveralCause style files names wrote writes)
+all_untold style files names wrote writes (Ok value) other stops = tt
+all_untold style files names wrote writes (Err fault) other stops = untold style files names wrote writes fault other stops
+
 -- only a part of what is told could be written
 pub told_cut : (style : Style) (files : List ℕ → Option (List ℕ)) (names : List (List ℕ)) (wrote writes : Option (List ℕ)) (told : List ℕ) (status : ℕ) (fault : CliFault) →
     TellsSeveral style files names told status → StopsWriting wrote writes told fault → HasSeveralCause style files names wrote writes fault
@@ -129,3 +135,18 @@ told_cut style files names wrote writes told status Write tells stops = record {
   prefix = stops.3;
 }
 told_cut style files names wrote writes told status fault tells stops = absurd stops
+
+few_by : (none : Bool) → (if none then 0 else 1) ≤ 2
+few_by true = omega arith
+few_by false = omega arith
+
+few_unjudged : (manner : Manner) (text told : List ℕ) (status : ℕ) → IsUnjudgedTold manner text told status → status ≤ 2
+few_unjudged manner text told status (inl fault) = subst (λ n. n ≤ 2) (sym fault.status_is) (omega arith)
+few_unjudged manner text told status (inr illegal) = subst (λ n. n ≤ 2) (sym illegal.status_is) (omega arith)
+
+-- the status is at most 2
+pub few_told : (style : Style) (files : List ℕ → Option (List ℕ)) (names : List (List ℕ)) (told : List ℕ) (status : ℕ) →
+    TellsSeveral style files names told status → status ≤ 2
+few_told style files names told status (inl all) =
+    subst (λ n. n ≤ 2) (sym all.status_is) (few_by (all.together.found.refusals == 0 && all.together.records.refusals == 0))
+few_told style files names told status (inr faulty) = few_unjudged (manner_in style faulty.name) faulty.text told status faulty.tells

@@ -1,5 +1,5 @@
 -- What each step of recording a run says of the whole.
-use Rattle.std.proofs.Common.{◌≡◌, ◌≢◌, ◌≤◌, ℕ, List, [], length, reverse, Option, None, Result, Ok, Err, IfOk, IfErr, OnOk, refl, sym, subst}
+use Rattle.std.proofs.Common.{◌≡◌, ◌≢◌, ◌≤◌, ◌↔◌, ℕ, Bool, List, [], length, reverse, Option, None, Result, Ok, Err, IfOk, IfErr, OnOk, IsErrOf, IsTrue, refl, sym, ap, subst}
 use Rattle.std.specs.Io.KnownBytes.{Appends}
 use Rattle.command_streams.specs.declared.fault.CliFault.{CliFault}
 use Rattle.command_streams.specs.declared.fault.CliFault.TheVariants.{Write, Unwritten, Limit, Stopped, Torn, Strange, Memory}
@@ -61,6 +61,16 @@ telling_cause reader traced traces wrote writes limit line trace status Write to
   prefix = stops.4;
 }
 telling_cause reader traced traces wrote writes limit line trace status fault told stops = absurd stops
+
+-- as where the trace could not be
+pub trace_unwritten : (traced traces wrote writes : Option (List ℕ)) (trace line : List ℕ) (fault : CliFault) → StopsWriting traced traces trace fault →
+    StopsTelling (writing traced traces) (writing wrote writes) trace line Unwritten
+trace_unwritten traced traces wrote writes trace line Write stops = stops
+trace_unwritten traced traces wrote writes trace line fault stops = absurd stops
+
+pub unwritten_failed : {S T : Type 0} (fault : CliFault) (failed : Bool) → fault ≡ Write → (IsErrOf {T = S} (Err fault) Write ↔ IsTrue failed) →
+    IsErrOf {T = T} (Err Unwritten) Unwritten ↔ IsTrue failed
+unwritten_failed fault failed is step = ((λ told. step.0 (ap (λ (f : CliFault). Err f) is)), (λ failing. refl))
 
 -- a writer has failed then
 pub telling_writes : (traced traces wrote writes : Option (List ℕ)) (trace line : List ℕ) (fault : CliFault) → StopsTelling (writing traced traces) (writing wrote writes) trace line fault →

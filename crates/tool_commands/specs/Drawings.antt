@@ -19,7 +19,7 @@ use Rattle.command_streams.specs.declared.fault.CliFault.TheVariants.{Read, Writ
 use Rattle.tool_commands.specs.Outcomes.{refusal_status}
 use Rattle.command_streams.specs.Readings.{Reading, StopsReader}
 use Rattle.tool_commands.specs.Replays.{AnswersAll, StopsGate}
-use Rattle.command_streams.specs.Streams.{IsRead, IsFaulty}
+use Rattle.command_streams.specs.Streams.{IsRead, IsFaulty, IsFaultOf}
 
 -- ---- the drawing of a trace
 
@@ -58,6 +58,26 @@ StopsDrawing trace Limit = StopsGate trace Limit
 StopsDrawing trace TooManyStrands = HasTooManyStrands trace
 StopsDrawing trace Memory = Unit {0}
 StopsDrawing trace fault = ⊥
+
+-- The bytes mean a trace, and the text is its drawing, by the notes of those very bytes.
+pub record DrawsText (A : Type 0) (form : Form) (bytes text : List ℕ) (status : ℕ) : Type 0 where
+  pub trace : Contents
+  pub means : TextMeans bytes trace
+  pub notes : Notes A
+  pub noted : AreNotes (lines bytes) notes
+  pub draws : DrawsContents form notes trace text status
+
+-- The bytes mean a trace, which is not drawn.
+pub record IsUndrawn (bytes : List ℕ) (fault : CliFault) : Type 0 where
+  pub trace : Contents
+  pub means : TextMeans bytes trace
+  pub stops : StopsDrawing trace fault
+
+-- Why the trace that the bytes are to mean is not drawn.
+abbrev pub StopsText : (bytes : List ℕ) → CliFault → Type 0
+StopsText bytes (Trace fault) = IsFaultOf bytes (Trace fault)
+StopsText bytes Memory = Unit {0}
+StopsText bytes fault = IsUndrawn bytes fault
 
 -- ---- reading and writing
 

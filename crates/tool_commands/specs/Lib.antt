@@ -1,5 +1,6 @@
 pub mod Programs
 pub mod Outcomes
+pub mod Ends
 pub mod Runs
 pub mod Laws
 pub mod Declarations

@@ -77,11 +77,6 @@ HasTracedCause reader traces reports limit Unwritten = IsTraceCut reader traces 
 HasTracedCause reader traces reports limit Write = IsReportCut reader traces reports limit
 HasTracedCause reader traces reports limit fault = StopsRun reader limit fault
 
--- A part of the trace was written, and a call failed.
-abbrev pub StopsTrace : (traced traces : Option (List ℕ)) → (trace : List ℕ) → CliFault → Type 0
-StopsTrace traced traces trace Unwritten = StopsWriting traced traces trace Write
-StopsTrace traced traces trace fault = ⊥
-
 -- Only a part of the trace was written, or the trace and only a part of the report.
 abbrev pub StopsTelling : (traces reports : Writing) → (trace line : List ℕ) → CliFault → Type 0
 StopsTelling traces reports trace line Unwritten = StopsWriting traces.before traces.behind trace Write

@@ -23,11 +23,6 @@ fn is_clean_reply(reply: Reply) -> bool
     }
 }
 
-/// Whether a reply is that there is no memory.
-fn is_short(reply: Reply) -> bool {
-    matches!(reply, Reply::Illegal(GateFault::Memory))
-}
-
 /// A core that has answered no request, for those of a trace.
 pub(crate) fn core_for(alloc: Global, trace: &Trace<Global>) -> Result<Core<Global>, AllocError>
     ensures { IfOk result (λ core. IsCoreOf core (opening (declared_shape (trace_contents trace.now)) most_entries)) }
@@ -46,7 +41,7 @@ pub(crate) fn clean_count(alloc: Global, trace: &Trace<Global>) -> Result<Option
     let mut core = core_for(alloc, trace)?;
     for line in trace.lines.iter() {
         let reply = core.reply(line.request);
-        if is_short(reply) {
+        if matches!(reply, Reply::Illegal(GateFault::Memory)) {
             return Err(AllocError);
         }
         if !is_clean_reply(reply) {

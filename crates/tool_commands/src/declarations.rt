@@ -8,7 +8,7 @@ ghost use Rattle.tool_commands.specs.Declarations.{IsSameMem, IsSameReducer, Dec
 
 use program_text::Program;
 use std::alloc::Allocator;
-use text_words::{Mem, Monoid, Reducer};
+use text_words::{Mem, Reducer};
 use trace_text::Trace;
 
 /// Whether the two have the same name and as many cells, and both are arrays or neither is.
@@ -32,17 +32,11 @@ fn are_same_mems(one: &[Mem], other: &[Mem]) -> bool
     true
 }
 
-fn is_same_monoid(one: Monoid, other: Monoid) -> bool
-    ensures { IsTrue result ↔ one ≡ other }
-{
-    one == other
-}
-
 /// Whether the two have the same name and monoid.
 fn is_same_reducer(one: &Reducer, other: &Reducer) -> bool
     ensures { IsTrue result ↔ IsSameReducer one.now other.now }
 {
-    one.name.as_str() == other.name.as_str() && is_same_monoid(one.monoid, other.monoid)
+    one.name.as_str() == other.name.as_str() && one.monoid == other.monoid
 }
 
 fn are_same_reducers(one: &[Reducer], other: &[Reducer]) -> bool

@@ -1,28 +1,22 @@
 //! Drawing the dag of the trace that a reader gives.
 
-ghost use Rattle.std.specs.Prelude.{◌≡◌, ◌⊎◌, false, reverse, IfOk, IfErr};
-ghost use Rattle.trace_text.specs.Traces.{contents};
-ghost use Rattle.text_words.specs.Text.{lines};
-ghost use Rattle.trace_notes.specs.Notes.{AreNotes};
+ghost use Rattle.std.specs.Prelude.{◌≡◌, false, reverse, IfOk, IfErr};
 ghost use Rattle.dag_drawing.specs.Walks.{IsLegalHistory};
 ghost use Rattle.dag_drawing.specs.Drawn.{IsDrawing};
 ghost use Rattle.command_streams.specs.Devices.{LeavesDevices};
 ghost use Rattle.command_streams.specs.Watched.{held, has_failed, calls_of, IsCalledAtMost};
 ghost use Rattle.command_streams.specs.Streams.{most_reads};
 ghost use Rattle.command_streams.specs.Readings.{reading};
-ghost use Rattle.tool_commands.specs.Replays.{AnswersAll, StopsGate};
-ghost use Rattle.tool_commands.specs.Drawings.{StopsEntries, DrawsContents, StopsDrawing, IsDrawn, HasDrawingCause};
+ghost use Rattle.tool_commands.specs.Drawings.{StopsEntries, DrawsText, StopsText, IsDrawn, HasDrawingCause};
 
 use crate::explain_trace::notes_of;
-use crate::outcome::refusal_status;
+use crate::outcome::{refusal_status, write_told};
 use crate::replay::answer_all;
-use command_streams::{CliFault, Watched, parse_trace, read_text, write_text};
+use command_streams::{CliFault, Watched, parse_trace, read_text};
 use dag_drawing::{Drawing, Form, Names, draw, write_drawing};
 use race_gate::Entry;
 use std::alloc::Allocator;
 use std::io::{Read, Write};
-use trace_notes::Notes;
-use trace_text::Trace;
 
 /// The drawing of entries, given from the oldest on.
 fn drawing_of<A: Allocator + Copy>(alloc: A, entries: &[Entry]) -> Result<Drawing<A>, CliFault>
@@ -37,17 +31,18 @@ fn drawing_of<A: Allocator + Copy>(alloc: A, entries: &[Entry]) -> Result<Drawin
     }
 }
 
-/// The text of a trace's drawing, and the exit status.
+/// The text of the drawing of the trace that some bytes mean, and the exit status.
 fn draw_trace<A: Allocator + Copy>(
     alloc: A,
     form: Form,
-    notes: &Notes<A>,
-    trace: &Trace<A>,
+    bytes: Vec<u8, A>,
 ) -> Result<(Vec<u8, A>, u8), CliFault>
-    ensures ok { IfOk result (λ told. DrawsContents form notes.now (contents trace.now) told.0.items told.1) }
-    ensures fault { IfErr result (StopsDrawing (contents trace.now)) }
+    ensures ok { IfOk result (λ told. DrawsText A form bytes.items told.0.items told.1) }
+    ensures fault { IfErr result (StopsText bytes.items) }
 {
-    let gate = answer_all(alloc, trace)?;
+    let notes = notes_of(alloc, bytes.as_slice())?;
+    let trace = parse_trace(alloc, bytes)?;
+    let gate = answer_all(alloc, &trace)?;
     let entries = gate.history();
     let drawing = drawing_of(alloc, entries)?;
     let mems = trace.mems.as_slice();
@@ -55,7 +50,7 @@ fn draw_trace<A: Allocator + Copy>(
     let names = Names {
         mems,
         reducers,
-        notes,
+        notes: &notes,
     };
     let text = write_drawing(alloc, form, &names, &drawing)?;
     Ok((text, refusal_status(entries)))
@@ -88,9 +83,5 @@ pub fn draw_text<A: Allocator + Copy, R: Read, W: Write>(
     ensures reads { IsCalledAtMost most_reads (calls_of input.old) (calls_of input.new) }
 {
     let bytes = read_text(alloc, input)?;
-    let notes = notes_of(alloc, bytes.as_slice())?;
-    let trace = parse_trace(alloc, bytes)?;
-    let (text, status) = draw_trace(alloc, form, &notes, &trace)?;
-    write_text(output, text.as_slice())?;
-    Ok(status)
+    write_told(output, draw_trace(alloc, form, bytes))
 }

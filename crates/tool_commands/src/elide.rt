@@ -1,90 +1,60 @@
 //! Writing the elision of the program that a reader gives.
 
-ghost use Rattle.std.specs.Prelude.{◌≡◌, ◌↔◌, ◌≤◌, ◌++◌, ◌+◌, ℕ, List, [], true, false, IfOk, IfErr, OnOk, IsErrOf, IsTrue};
+ghost use Rattle.std.specs.Prelude.{◌≡◌, ◌↔◌, ◌≤◌, ◌+◌, ℕ, List, [], true, false, IfOk, IfErr, OnOk, IsErrOf, IsTrue};
 ghost use Rattle.std.specs.List.{All};
 ghost use Rattle.std.specs.Io.KnownBytes.{Appends};
-ghost use Rattle.text_words.specs.declared.fault.TextFault.{TextFault as SpecFault};
+ghost use Rattle.text_buffers.specs.Builders.{Adds};
 ghost use Rattle.trace_text.specs.Shapes.{name_in};
-ghost use Rattle.program_text.specs.Grammar.{TextMeans};
 ghost use Rattle.program_text.specs.Programs.{contents};
 ghost use Rattle.model_histories.specs.Shapes.{most_entries};
 ghost use Rattle.command_streams.specs.Devices.{LeavesDevices};
 ghost use Rattle.command_streams.specs.Watched.{held, has_failed, is_delivered, calls_of, IsCalledAtMost};
-ghost use Rattle.tool_commands.specs.Programs.{fault_of_program};
 ghost use Rattle.command_streams.specs.Streams.{most_reads, StopsWriting};
-ghost use Rattle.command_streams.specs.ElisionText.{cell_line, cell_lines, memory_text, elision_text, HasShortName};
+ghost use Rattle.command_streams.specs.ElisionText.{cell_lines, memory_text, elision_text, HasShortName};
 ghost use Rattle.command_streams.specs.Tellings.{telling, TellsMore};
 ghost use Rattle.tool_commands.specs.Elided.{ElidesContents, StopsElision, IsElided, HasElisionCause};
-ghost use Rattle.tool_commands.specs.Programs.{IsProgramFault};
 
 use crate::program::read_program;
 use command_streams::{CliFault, LineBuffer, Watched, deliver};
 use program_text::Program;
 use serial_elision::{ElideFault, Elided, elide};
-use std::alloc::{AllocError, Allocator};
+use std::alloc::Allocator;
 use std::io::{Read, Write};
-use text_buffers::{push_number, push_words};
-use text_words::{Mem, TextFault};
+use text_buffers::TextBuilder;
+use text_words::Mem;
 
 /// Adds the name of a memory's cell with this index.
-pub(crate) fn push_name<A: Allocator>(
-    text: &mut Vec<u8, A>,
-    mem: &Mem,
-    index: usize,
-) -> Result<(), AllocError>
-    ensures { OnOk result (text.new.items ≡ text.old.items ++ name_in mem.now index) }
+pub(crate) fn push_name(text: &mut TextBuilder, mem: &Mem, index: usize)
+    ensures { Adds text.old (name_in mem.now index) text.new }
 {
-    push_words(text, mem.name.as_str())?;
+    text.push_words(mem.name.as_str());
     if mem.array {
-        push_number(text, "[", index as u64)?;
-        push_words(text, "]")?;
+        text.push_number("[", index as u64);
+        text.push_words("]");
     }
-    Ok(())
-}
-
-/// Adds the line of a memory's cell with this index.
-fn push_cell<A: Allocator>(
-    text: &mut Vec<u8, A>,
-    mem: &Mem,
-    index: usize,
-    value: u64,
-) -> Result<(), AllocError>
-    ensures { OnOk result (text.new.items ≡ text.old.items ++ cell_line mem.now index value) }
-{
-    push_name(text, mem, index)?;
-    push_number(text, " ", value)?;
-    push_words(text, "\n")
 }
 
 /// Adds the lines of a memory's cells.
-fn push_cells<A: Allocator>(
-    text: &mut Vec<u8, A>,
-    mem: &Mem,
-    values: &[u64],
-) -> Result<(), AllocError>
-    ensures { OnOk result (text.new.items ≡ text.old.items ++ cell_lines mem.now 0 values.now) }
+fn push_cells(text: &mut TextBuilder, mem: &Mem, values: &[u64])
+    ensures { Adds text.old (cell_lines mem.now 0 values.now) text.new }
 {
     for (index, value) in values.iter().enumerate() {
-        push_cell(text, mem, index, *value)?;
+        push_name(text, mem, index);
+        text.push_number(" ", *value);
+        text.push_words("\n");
     }
-    Ok(())
 }
 
 /// Adds the lines of all cells.
-pub fn push_memory<A: Allocator>(
-    text: &mut Vec<u8, A>,
-    mems: &[Mem],
-    values: &[u64],
-) -> Result<(), AllocError>
-    ensures { OnOk result (text.new.items ≡ text.old.items ++ memory_text mems.now values.now) }
+pub(crate) fn push_memory(text: &mut TextBuilder, mems: &[Mem], values: &[u64])
+    ensures { Adds text.old (memory_text mems.now values.now) text.new }
 {
     let mut rest = values;
     for mem in mems {
         let (own, others) = rest.split_at(rest.len().min(mem.cells as usize));
-        push_cells(text, mem, own)?;
+        push_cells(text, mem, own);
         rest = others;
     }
-    Ok(())
 }
 
 /// The elision of a program.
@@ -139,24 +109,6 @@ fn tell_memory<A: Allocator, W: Write>(
     }
 }
 
-/// Tells a line for each cell and one for the number of requests, and writes those that wait.
-fn tell_elision<A: Allocator, W: Write>(
-    output: &mut Watched<W>,
-    lines: &mut LineBuffer<A>,
-    mems: &[Mem],
-    values: &[u64],
-    requests: u32,
-)
-    requires { All HasShortName mems.now }
-    ensures told { TellsMore (telling (W.contents (held output.old)) (has_failed output.old) lines.old.text)
-        (telling (W.contents (held output.new)) (has_failed output.new) lines.new.text) (elision_text mems.now values.now requests) }
-    ensures none { lines.new.text ≡ [] }
-{
-    tell_memory(output, lines, mems, values);
-    lines.tell_requests(output, requests);
-    lines.write_out(output);
-}
-
 /// Writes a line for each cell and one for the number of requests, through the room for lines that wait, and sees to it that all are
 /// delivered.
 fn write_elision<A: Allocator, W: Write>(
@@ -176,7 +128,9 @@ fn write_elision<A: Allocator, W: Write>(
     ensures delivered { OnOk result (is_delivered output.new ≡ true) }
     ensures failed { IsErrOf result CliFault.Write ↔ IsTrue (has_failed output.new) }
 {
-    tell_elision(output, &mut lines, mems, values, requests);
+    tell_memory(output, &mut lines, mems, values);
+    lines.tell_requests(output, requests);
+    lines.write_out(output);
     if output.failed() {
         return Err(CliFault::Write);
     }

@@ -1,7 +1,7 @@
 //! Explaining a run of the program that a reader gives.
 
-ghost use Rattle.std.specs.Prelude.{◌≡◌, ◌↔◌, ◌<◌, ◌≤◌, ◌⊎◌, ◌++◌, ℕ, true, false, Option, List, length};
-ghost use Rattle.std.specs.Prelude.{reverse, decimal, IfOk, IfErr, OnOk, IsTrue};
+ghost use Rattle.std.specs.Prelude.{◌≡◌, ◌↔◌, ◌<◌, ◌≤◌, ◌⊎◌, ℕ, true, false, Option, List, length};
+ghost use Rattle.std.specs.Prelude.{reverse, decimal, IfOk, IfErr, IsTrue};
 ghost use Rattle.std.specs.Ordering.{nat_cmp};
 ghost use Rattle.std.specs.BTreeMap.{get};
 ghost use Rattle.program_text.specs.Grammar.{TextMeans};
@@ -21,7 +21,7 @@ ghost use Rattle.command_streams.specs.Readings.{reading};
 ghost use Rattle.command_streams.specs.KeptTexts.{text_of, IsKept};
 ghost use Rattle.program_runs.specs.Runs.{IsWholeRun, LacksRun, WantsMore};
 ghost use Rattle.tool_commands.specs.Runs.{IsRunFault};
-ghost use Rattle.tool_commands.specs.Explanations.{Manner as SpecManner, clean_words, clean_text, cut_words, cut_behind, cut_text};
+ghost use Rattle.tool_commands.specs.Explanations.{Manner as SpecManner, clean_words};
 ghost use Rattle.tool_commands.specs.Explanations.{file_of, clean_run, TellsClean, TellsRaces, ExplainsCut, TellsCut, TellsFaulty};
 ghost use Rattle.race_records.specs.Documents.{RecordsRun};
 ghost use Rattle.fault_lists.specs.FaultLists.{HasFault};
@@ -35,10 +35,10 @@ use crate::elide::push_memory;
 use crate::explain_trace::explain_trace_text;
 use crate::judged::digest_of_run;
 use crate::memory::memory_value;
-use crate::outcome::{Outcome, outcome_of, refusal_status};
+use crate::outcome::{Outcome, outcome_of, refusal_status, write_told};
 use crate::run::fault_of;
 use crate::sort::is_program;
-use command_streams::{CliFault, KeptText, Watched, read_kept, write_text};
+use command_streams::{CliFault, KeptText, Watched, read_kept};
 use fault_lists::{Fault, faults_message};
 use locked_replay::{RunFault, Whole};
 use packed_history::Entries;
@@ -57,7 +57,7 @@ use std::io::{Read, Write};
 use std::marker::Model;
 use std::sync::Wait;
 use std::thread::Threads;
-use text_buffers::{push_number, push_words};
+use text_buffers::{TextBuilder, push_number, push_words};
 use text_words::TextFault;
 
 /// The form of what is told.
@@ -123,20 +123,6 @@ fn clean_words() -> &'static str
     "clean for every schedule: no run of this program has a race, and each leaves this memory\n"
 }
 
-/// What is told where the limit ended a run, before its number of requests.
-fn cut_words() -> &'static str
-    ensures { result.now ≡ cut_words }
-{
-    "this is no whole run: the limit ended it after "
-}
-
-/// What is told behind the number of requests.
-fn cut_behind() -> &'static str
-    ensures { result.now ≡ cut_behind }
-{
-    " requests, and there may be more to tell\n"
-}
-
 /// The indexes that a run wraps. Errors where there is no memory.
 fn wraps_of(
     alloc: Global,
@@ -180,20 +166,6 @@ fn behind_warnings(
         }
         Rendering::Record(_) => Ok(run),
     }
-}
-
-/// What a person is told where nothing was refused.
-fn tell_clean_text(
-    alloc: Global,
-    program: &Program<Global>,
-    memory: &[u64],
-) -> Result<Vec<u8>, AllocError>
-    ensures { IfOk result (λ told. told.items ≡ clean_text (contents program.now) memory.now) }
-{
-    let mut told = Vec::new(alloc);
-    push_words(&mut told, clean_words())?;
-    push_memory(&mut told, program.mems.as_slice(), memory)?;
-    Ok(told)
 }
 
 /// The record of a run in which nothing was refused.
@@ -243,7 +215,12 @@ fn explain_clean(
         whole.now.entries.items whole.now.memory.items told.items) }
 {
     match manner.rendering {
-        Rendering::Text => tell_clean_text(alloc, program, whole.memory.as_slice()),
+        Rendering::Text => {
+            let mut told = TextBuilder::new(alloc);
+            told.push_words(clean_words());
+            push_memory(&mut told, program.mems.as_slice(), whole.memory.as_slice());
+            told.end()
+        }
         Rendering::Record(form) => {
             clean_record(alloc, form, manner, text, program, wraps, whole)
         }
@@ -287,14 +264,6 @@ fn tell_races(
             digest,
         ),
     }
-}
-
-/// Adds that the limit ended a run after so many requests.
-fn push_cut(told: &mut Vec<u8>, count: usize) -> Result<(), AllocError>
-    ensures { OnOk result (told.new.items ≡ told.old.items ++ cut_text count) }
-{
-    push_number(told, cut_words(), count as u64)?;
-    push_words(told, cut_behind())
 }
 
 /// What is told of a finished run, with the warnings of its program.
@@ -347,7 +316,13 @@ fn tell_cut_text(
         program,
         digest,
     )?;
-    push_cut(&mut told, digest.lines.len())?;
+    let count = digest.lines.len() as u64;
+    push_number(
+        &mut told,
+        "this is no whole run: the limit ended it after ",
+        count,
+    )?;
+    push_words(&mut told, " requests, and there may be more to tell\n")?;
     Ok(told)
 }
 
@@ -436,26 +411,6 @@ fn explain_cut(
     }
 }
 
-/// What is told where there is no finished run.
-fn explain_unfinished_run(
-    alloc: Global,
-    manner: &Manner<'_>,
-    text: &[u8],
-    program: &Program<Global>,
-    cut: &UnfinishedRun,
-    limit: u32,
-) -> Result<(Vec<u8>, End), CliFault>
-    requires lacks { LacksRun program.now.functions (shape_in program.now) limit cut.now.fault }
-    requires limit { limit ≤ most_entries }
-    ensures ok { IfOk result (λ told. TellsEnd manner.now text.now (contents program.now) limit told.0.items told.1) }
-    ensures fault { IfErr result (IsRunFault (contents program.now) limit) }
-{
-    match (cut.fault, &cut.gate) {
-        (RunFault::Limit, Some(gate)) => explain_cut(alloc, manner, text, program, gate, limit),
-        (fault, _) => Err(fault_of(fault)),
-    }
-}
-
 /// Some run of a program by so many workers, or by one in the serial order.
 fn some_run<D: Door + Sync, R: Threads + Wait + Sync>(
     rt: &R,
@@ -497,7 +452,10 @@ fn explain_run<D: Door + Sync, R: Threads + Wait + Sync>(
 {
     match some_run(rt, alloc, program, workers, is_serial, door, limit) {
         Ok(whole) => Ok(explain_whole(alloc, manner, text, program, &whole, limit)?),
-        Err(cut) => explain_unfinished_run(alloc, manner, text, program, &cut, limit),
+        Err(cut) => match (cut.fault, &cut.gate) {
+            (RunFault::Limit, Some(gate)) => explain_cut(alloc, manner, text, program, gate, limit),
+            (fault, _) => Err(fault_of(fault)),
+        },
     }
 }
 
@@ -619,7 +577,8 @@ pub fn explain_text<D: Door + Sync, P: Read, W: Write, R: Threads + Wait + Sync>
     ensures reads { IsCalledAtMost most_reads (calls_of program.old) (calls_of program.new) }
 {
     let source = read_kept(alloc, program)?;
-    let (told, status) = tell_source(rt, alloc, manner, &source, workers, is_serial, door, limit)?;
-    write_text(output, told.as_slice())?;
-    Ok(status)
+    write_told(
+        output,
+        tell_source(rt, alloc, manner, &source, workers, is_serial, door, limit),
+    )
 }

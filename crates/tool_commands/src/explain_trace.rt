@@ -12,9 +12,9 @@ ghost use Rattle.race_explanations.specs.Extents.{most_pairs};
 ghost use Rattle.tool_commands.specs.Outcomes.{refusal_status};
 ghost use Rattle.tool_commands.specs.Cleanness.{IsAllClean};
 ghost use Rattle.tool_commands.specs.Digested.{IsDigested};
-ghost use Rattle.tool_commands.specs.Replays.{AnswersAll, StopsAt, StopsGate};
-ghost use Rattle.tool_commands.specs.Explanations.{clean_trace_words, recorded_line, recorded_text, judged_text, TellsEntries, IsTraceTold, IsIllegalTold, IsUnjudgedTold};
-ghost use Rattle.tool_commands.specs.Explanations.{Manner as SpecManner, IsUntoldTrace, ending_of, RecordsTrace};
+ghost use Rattle.tool_commands.specs.Replays.{StopsAt, StopsGate};
+ghost use Rattle.tool_commands.specs.Explanations.{clean_trace_words, recorded_line, judged_text, TellsEntries, IsTraceTold, IsIllegalTold, IsUnjudgedTold};
+ghost use Rattle.tool_commands.specs.Explanations.{Manner as SpecManner, IsUntoldTrace, ending_of};
 ghost use Rattle.tool_commands.specs.Explanations.{ExplainsTrace, TellsTrace, TellsIllegal, IsJudgedSo};
 
 use crate::ask::{Stop, ask_all};
@@ -26,11 +26,11 @@ use command_streams::{CliFault, KeptText};
 use fault_lists::Fault;
 use memchr::memchr;
 use race_explanations::{
-    Extent, Illegality, find_illegality, illegal_explanation, most_pairs, trace_explanation,
+    Illegality, find_illegality, illegal_explanation, most_pairs, trace_explanation,
 };
 use race_gate::Gate;
 use race_pairs::Digest;
-use race_records::{Outcome as Ending, RecordForm, illegal_record, trace_record};
+use race_records::{Outcome as Ending, illegal_record, trace_record};
 use source_quotes::{Meant, push_count};
 use std::alloc::{AllocError, Allocator, Global};
 use text_buffers::{TextBuilder, push_words};
@@ -83,13 +83,16 @@ fn explain_entries(
     )
 }
 
-/// Adds what was recorded by one note.
-pub(crate) fn push_run(told: &mut Vec<u8>, run: &str) -> Result<(), AllocError>
-    ensures { OnOk result (told.new.items ≡ told.old.items ++ recorded_line run.now) }
+/// Adds a line for each run that was recorded.
+pub(crate) fn push_recorded(told: &mut Vec<u8>, runs: &[String]) -> Result<(), AllocError>
+    ensures { OnOk result (told.new.items ≡ told.old.items ++ flat_map recorded_line (map string_bytes runs.now)) }
 {
-    push_words(told, "recorded: ")?;
-    push_words(told, run)?;
-    push_words(told, "\n")
+    for run in runs {
+        push_words(told, "recorded: ")?;
+        push_words(told, run.as_str())?;
+        push_words(told, "\n")?;
+    }
+    Ok(())
 }
 
 /// The exit status of a trace: 1 where something was refused, else 0.
@@ -107,41 +110,6 @@ fn ending_of(status: u8) -> Ending
         0 => Ending::Clean,
         _ => Ending::Raced,
     }
-}
-
-/// The record of a trace.
-fn entries_record(
-    alloc: Global,
-    form: RecordForm,
-    extent: Extent,
-    notes: &Notes<Global>,
-    trace: &Trace<Global>,
-    digest: &Digest,
-) -> Result<Vec<u8>, AllocError>
-    requires digest { (entries : List Entry) × IsDigest entries digest.now }
-    requires most { most_of digest.now ≡ most_pairs extent }
-    ensures { IfOk result (λ told. (entries : List Entry) → IsDigest entries digest.now →
-        RecordsTrace form extent notes.now (trace_contents trace.now) entries told.items) }
-{
-    trace_record(
-        alloc,
-        form,
-        ending_of(status_of(digest)),
-        extent,
-        notes,
-        trace,
-        digest,
-    )
-}
-
-/// Adds what was recorded.
-fn push_recorded(told: &mut Vec<u8>, notes: &Notes<Global>) -> Result<(), AllocError>
-    ensures { OnOk result (told.new.items ≡ told.old.items ++ recorded_text notes.now) }
-{
-    for run in notes.runs() {
-        push_run(told, run.as_str())?;
-    }
-    Ok(())
 }
 
 /// The notes of a text. A text without `#` has none, and its lines are not looked at one by one.
@@ -258,7 +226,7 @@ fn verdict_text(
         ExplainsTrace manner.now notes.now (trace_contents trace.now) entries told.items) }
 {
     let mut told = explain_entries(alloc, manner, notes, trace, digest)?;
-    push_recorded(&mut told, notes)?;
+    push_recorded(&mut told, notes.runs())?;
     Ok(told)
 }
 
@@ -277,9 +245,15 @@ fn tell_verdict(
 {
     match manner.rendering {
         Rendering::Text => verdict_text(alloc, manner, notes, trace, digest),
-        Rendering::Record(form) => {
-            entries_record(alloc, form, manner.extent, notes, trace, digest)
-        }
+        Rendering::Record(form) => trace_record(
+            alloc,
+            form,
+            ending_of(status_of(digest)),
+            manner.extent,
+            notes,
+            trace,
+            digest,
+        ),
     }
 }
 
@@ -301,21 +275,6 @@ fn explain_judged(
     Ok((told, status_of(digest)))
 }
 
-/// The digest of the entries of a gate that answered all requests of a trace, which keeps so many pairs.
-fn digest_of_gate(
-    alloc: Global,
-    trace: &Trace<Global>,
-    gate: &Gate<Global>,
-    most: usize,
-) -> Result<Digest, AllocError>
-    requires { AnswersAll (trace_contents trace.now) gate.now }
-    ensures digested { IfOk result (IsDigested (trace_contents trace.now)) }
-    ensures most { IfOk result (λ digest. most_of digest ≡ most) }
-{
-    let _trace = trace;
-    Digest::of(alloc, gate.history(), most)
-}
-
 /// What a person is told of a trace that a text means, in which nothing is refused among so many requests.
 fn explain_clean_trace(
     alloc: Global,
@@ -330,7 +289,7 @@ fn explain_clean_trace(
     let _trace = trace;
     let notes = notes_of_kept(alloc, source)?;
     let mut told = explain_clean(alloc, count)?;
-    push_recorded(&mut told, &notes)?;
+    push_recorded(&mut told, notes.runs())?;
     Ok(told)
 }
 
@@ -341,30 +300,6 @@ pub(crate) enum Judged {
     Whole(Digest),
     /// What is told of the first illegal one.
     Stopped(Vec<u8>),
-}
-
-/// What comes of the requests of a trace that a text means, by a gate that keeps the history.
-fn judge_history(
-    alloc: Global,
-    manner: &Manner<'_>,
-    source: &KeptText<Global>,
-    trace: &Trace<Global>,
-) -> Result<Judged, CliFault>
-    requires { KeepsTrace source.now (trace_contents trace.now) }
-    ensures ok { IfOk result (IsJudgedSo manner.now (text_of source.now) (trace_contents trace.now)) }
-    ensures fault { IfErr result (λ fault. (fault ≡ CliFault.Memory) ⊎ StopsGate (trace_contents trace.now) fault) }
-{
-    let (gate, stop) = ask_all(alloc, trace)?;
-    match stop {
-        None => {
-            let digest = digest_of_gate(alloc, trace, &gate, most_pairs(manner.extent))?;
-            Ok(Judged::Whole(digest))
-        }
-        Some(stop) => {
-            let told = explain_kept_stop(alloc, manner, source, trace, &gate, stop)?;
-            Ok(Judged::Stopped(told))
-        }
-    }
 }
 
 /// What comes of the requests of a trace that a text means. A history is kept only where a request is illegal.
@@ -378,52 +313,22 @@ pub(crate) fn judge_trace(
     ensures ok { IfOk result (IsJudgedSo manner.now (text_of source.now) (trace_contents trace.now)) }
     ensures fault { IfErr result (λ fault. (fault ≡ CliFault.Memory) ⊎ StopsGate (trace_contents trace.now) fault) }
 {
-    match digest_of_trace(alloc, trace, most_pairs(manner.extent))? {
-        Some(digest) => Ok(Judged::Whole(digest)),
-        None => judge_history(alloc, manner, source, trace),
+    let most = most_pairs(manner.extent);
+    if let Some(digest) = digest_of_trace(alloc, trace, most)? {
+        return Ok(Judged::Whole(digest));
     }
-}
-
-/// What is told of a trace that a text means, and the exit status.
-fn tell_digest(
-    alloc: Global,
-    manner: &Manner<'_>,
-    source: &KeptText<Global>,
-    trace: &Trace<Global>,
-) -> Result<(Vec<u8>, u8), CliFault>
-    requires { KeepsTrace source.now (trace_contents trace.now) }
-    ensures ok { IfOk result (λ told. IsTraceTold manner.now (text_of source.now) told.0.items told.1 ⊎ IsUnjudgedTold manner.now (text_of source.now) told.0.items told.1) }
-    ensures fault { IfErr result (λ fault. (fault ≡ CliFault.Memory) ⊎ StopsGate (trace_contents trace.now) fault) }
-{
-    match judge_trace(alloc, manner, source, trace)? {
-        Judged::Whole(digest) => Ok(explain_judged(alloc, manner, source, trace, &digest)?),
-        Judged::Stopped(told) => Ok((told, 2)),
-    }
-}
-
-/// What a person is told of a trace that a text means, and the exit status. More than a count is kept only where something is refused or
-/// illegal.
-fn trace_text_by(
-    alloc: Global,
-    manner: &Manner<'_>,
-    source: &KeptText<Global>,
-    trace: &Trace<Global>,
-) -> Result<(Vec<u8>, u8), CliFault>
-    requires means { KeepsTrace source.now (trace_contents trace.now) }
-    requires rendering { manner.now.rendering ≡ Rendering.Text }
-    ensures ok { IfOk result (λ told. IsTraceTold manner.now (text_of source.now) told.0.items told.1 ⊎ IsUnjudgedTold manner.now (text_of source.now) told.0.items told.1) }
-    ensures fault { IfErr result (λ fault. (fault ≡ CliFault.Memory) ⊎ StopsGate (trace_contents trace.now) fault) }
-{
-    match clean_count(alloc, trace)? {
-        Some(count) => {
-            let told = explain_clean_trace(alloc, source, trace, count)?;
-            Ok((told, 0))
+    let (gate, stop) = ask_all(alloc, trace)?;
+    match stop {
+        None => Ok(Judged::Whole(Digest::of(alloc, gate.history(), most)?)),
+        Some(stop) => {
+            let told = explain_kept_stop(alloc, manner, source, trace, &gate, stop)?;
+            Ok(Judged::Stopped(told))
         }
-        None => tell_digest(alloc, manner, source, trace),
     }
 }
 
-/// What is told of a trace that a text means, and the exit status.
+/// What is told of a trace that a text means, and the exit status. Of a text for a person more than a count is kept only where something is
+/// refused or illegal.
 fn explain_trace(
     alloc: Global,
     manner: &Manner<'_>,
@@ -434,9 +339,15 @@ fn explain_trace(
     ensures ok { IfOk result (λ told. IsTraceTold manner.now (text_of source.now) told.0.items told.1 ⊎ IsUnjudgedTold manner.now (text_of source.now) told.0.items told.1) }
     ensures fault { IfErr result (λ fault. (fault ≡ CliFault.Memory) ⊎ StopsGate (trace_contents trace.now) fault) }
 {
-    match manner.rendering {
-        Rendering::Text => trace_text_by(alloc, manner, source, trace),
-        Rendering::Record(_) => tell_digest(alloc, manner, source, trace),
+    if let Rendering::Text = manner.rendering {
+        if let Some(count) = clean_count(alloc, trace)? {
+            let told = explain_clean_trace(alloc, source, trace, count)?;
+            return Ok((told, 0));
+        }
+    }
+    match judge_trace(alloc, manner, source, trace)? {
+        Judged::Whole(digest) => Ok(explain_judged(alloc, manner, source, trace, &digest)?),
+        Judged::Stopped(told) => Ok((told, 2)),
     }
 }
 

@@ -1,6 +1,6 @@
 //! Explaining several traces together.
 
-ghost use Rattle.std.specs.Prelude.{◌≡◌, ◌↔◌, ◌⊎◌, ◌==◌, ◌++◌, [], true, false, IfOk, IfErr, OnOk, IsErrOf, IsTrue, List, ℕ, map, flat_map, string_bytes};
+ghost use Rattle.std.specs.Prelude.{◌≡◌, ◌↔◌, ◌⊎◌, ◌==◌, [], true, false, IfOk, IfErr, OnOk, IsErrOf, IsTrue, List, ℕ, map, string_bytes};
 ghost use Rattle.std.specs.List.{list_any};
 ghost use Rattle.std.specs.Str.{bytes_eq};
 ghost use Rattle.trace_text.specs.Traces.{contents as trace_contents};
@@ -10,15 +10,15 @@ ghost use Rattle.command_streams.specs.Readings.{reading};
 ghost use Rattle.command_streams.specs.KeptTexts.{text_of, IsKept, KeepsTrace};
 ghost use Rattle.tool_commands.specs.Digested.{IsDigested};
 ghost use Rattle.tool_commands.specs.Replays.{StopsGate};
-ghost use Rattle.tool_commands.specs.Explanations.{IsUntoldTrace, recorded_line};
-ghost use Rattle.tool_commands.specs.Together.{together_of, none_together, with_run, with_runs, together_text, together_status, AddsFound, TellsTogether};
+ghost use Rattle.tool_commands.specs.Explanations.{IsUntoldTrace};
+ghost use Rattle.tool_commands.specs.Together.{together_of, none_together, with_runs, together_status, AddsFound, TellsTogether};
 ghost use Rattle.model_histories.specs.declared.answer.Entry.{Entry};
 ghost use Rattle.race_pairs.specs.Digests.{IsDigest, most_of};
 ghost use Rattle.race_explanations.specs.Extents.{most_pairs};
 ghost use Rattle.tool_commands.specs.Together.{AddsText, TakesText, TakesReading, StopsTaking};
 
 use crate::explain::{Manner, Rendering, tell_faults};
-use crate::explain_trace::{Judged, judge_trace, notes_of_kept, push_run};
+use crate::explain_trace::{Judged, judge_trace, notes_of_kept, push_recorded};
 use command_streams::{CliFault, KeptText, Watched, read_kept};
 use fault_lists::Fault;
 use race_explanations::{Extent, Findings, most_pairs};
@@ -70,33 +70,14 @@ fn is_among(runs: &[String], run: &str) -> bool
     false
 }
 
-/// Keeps a note of a run, unless it is kept.
-fn keep_run(alloc: Global, runs: &mut Vec<String>, run: &str) -> Result<(), AllocError>
-    ensures { OnOk result (map string_bytes runs.new.items ≡ with_run (map string_bytes runs.old.items) run.now) }
-{
-    if is_among(runs.as_slice(), run) {
-        return Ok(());
-    }
-    runs.push(String::from_str(alloc, run)?)?;
-    Ok(())
-}
-
-/// Keeps what was recorded by some notes.
+/// Keeps what was recorded by some notes, each run once.
 fn keep_runs(alloc: Global, runs: &mut Vec<String>, notes: &Notes<Global>) -> Result<(), AllocError>
     ensures { OnOk result (map string_bytes runs.new.items ≡ with_runs (map string_bytes runs.old.items) (kept_runs notes.now)) }
 {
     for run in notes.runs() {
-        keep_run(alloc, runs, run.as_str())?;
-    }
-    Ok(())
-}
-
-/// Adds what was recorded.
-fn push_kept(told: &mut Vec<u8>, runs: &[String]) -> Result<(), AllocError>
-    ensures { OnOk result (told.new.items ≡ told.old.items ++ flat_map recorded_line (map string_bytes runs.now)) }
-{
-    for run in runs {
-        push_run(told, run.as_str())?;
+        if !is_among(runs.as_slice(), run.as_str()) {
+            runs.push(String::from_str(alloc, run.as_str())?)?;
+        }
     }
     Ok(())
 }
@@ -260,15 +241,6 @@ impl Traces {
         }
     }
 
-    /// What a person is told of the traces together.
-    fn tell_text(&self, alloc: Global, extent: Extent) -> Result<Vec<u8>, AllocError>
-        ensures { IfOk result (λ told. told.items ≡ together_text extent (together_of self.now)) }
-    {
-        let mut told = self.findings.to_message(alloc, extent)?;
-        push_kept(&mut told, self.runs.as_slice())?;
-        Ok(told)
-    }
-
     /// What is told of the traces together: each pair of places that raced, or that nothing was refused, and what was recorded.
     pub fn to_message(
         &self,
@@ -279,7 +251,11 @@ impl Traces {
         ensures { IfOk result (λ told. TellsTogether rendering extent (together_of self.now) told.items) }
     {
         match rendering {
-            Rendering::Text => self.tell_text(alloc, extent),
+            Rendering::Text => {
+                let mut told = self.findings.to_message(alloc, extent)?;
+                push_recorded(&mut told, self.runs.as_slice())?;
+                Ok(told)
+            }
             Rendering::Record(form) => {
                 self.records
                     .record(alloc, form, extent, self.runs.as_slice())

@@ -2,30 +2,22 @@
 
 ghost use Rattle.std.specs.Prelude.{◌≡◌, ◌++◌, IfOk, OnOk, map};
 ghost use Rattle.serde_json.specs.View.{view};
-ghost use Rattle.race_records.specs.Values.{text_told};
-ghost use Rattle.trace_text.specs.Shapes.{name_in};
 ghost use Rattle.tool_commands.specs.Memories.{cell_value, cell_values, memory_values, memory_told};
 
 use crate::elide::push_name;
 use race_records::text_value;
 use serde_json::{Value, json};
 use std::alloc::{AllocError, Global};
+use text_buffers::TextBuilder;
 use text_words::Mem;
-
-/// The name of a memory's cell with this index.
-fn name_value(alloc: Global, mem: &Mem, index: usize) -> Result<Value, AllocError>
-    ensures { IfOk result (λ value. view value ≡ text_told (name_in mem.now index)) }
-{
-    let mut name = Vec::new(alloc);
-    push_name(&mut name, mem, index)?;
-    text_value(alloc, name.as_slice())
-}
 
 /// What a memory's cell with this index holds.
 fn cell_value(alloc: Global, mem: &Mem, index: usize, value: u64) -> Result<Value, AllocError>
     ensures { IfOk result (λ cell. view cell ≡ cell_value mem.now index value) }
 {
-    let name = name_value(alloc, mem, index)?;
+    let mut name = TextBuilder::new(alloc);
+    push_name(&mut name, mem, index);
+    let name = text_value(alloc, name.end()?.as_slice())?;
     json!(in alloc; {"cell": name, "value": value})
 }
 

@@ -1,18 +1,21 @@
 //! What a replay tells.
 
-ghost use Rattle.std.specs.Prelude.{◌≡◌, ◌↔◌, IfOk, IfErr, IsTrue, reverse};
+ghost use Rattle.std.specs.Prelude.{◌≡◌, ◌↔◌, false, IfOk, IfErr, IsTrue, reverse};
 ghost use Rattle.std.specs.List.{list_any};
 ghost use Rattle.model_histories.specs.Extensions.{IsClean};
 ghost use Rattle.program_text.specs.Shapes.{shape_in};
 ghost use Rattle.verdict_lines.specs.VerdictText.{is_refused as refused_spec};
+ghost use Rattle.command_streams.specs.Watched.{held, has_failed};
+ghost use Rattle.tool_commands.specs.Ends.{EndsSo};
 ghost use Rattle.tool_commands.specs.Outcomes.{IsSo, line_of_outcome as line_spec, refusal_status as status_of_run, status_of};
 
-use command_streams::CliFault;
+use command_streams::{CliFault, Watched, write_text};
 use locked_replay::Whole;
 use program_text::Program;
 use race_gate::{Answer, Entry};
 use run_replay::{ReplayFault, replay};
 use std::alloc::{AllocError, Allocator};
+use std::io::Write;
 use text_buffers::{push_number, push_words};
 
 /// What the replay of entries tells.
@@ -52,10 +55,10 @@ pub(crate) fn outcome_line<A: Allocator>(
 {
     let mut line = Vec::new(alloc);
     match outcome {
-        Outcome::Replayed(number) => push_number(&mut line, "replayed ", number)?,
-        Outcome::Strange(number) => push_number(&mut line, "strange ", u64::from(number))?,
-        Outcome::Unfinished => push_words(&mut line, "unfinished")?,
-    }
+        Outcome::Replayed(number) => push_number(&mut line, "replayed ", number),
+        Outcome::Strange(number) => push_number(&mut line, "strange ", u64::from(number)),
+        Outcome::Unfinished => push_words(&mut line, "unfinished"),
+    }?;
     push_words(&mut line, "\n")?;
     Ok(line)
 }
@@ -85,6 +88,19 @@ pub(crate) fn whole_status<A: Allocator>(whole: &Whole<A>) -> u8
     ensures { result ≡ status_of_run whole.now.entries.items }
 {
     if whole.clean { 0 } else { 1 }
+}
+
+/// Writes what is told, and answers the exit status that it comes with. Where nothing is told, nothing is written.
+pub(crate) fn write_told<A: Allocator, W: Write>(
+    output: &mut Watched<W>,
+    told: Result<(Vec<u8, A>, u8), CliFault>,
+) -> Result<u8, CliFault>
+    requires { has_failed output.old ≡ false }
+    ensures { EndsSo told (W.contents (held output.old)) (W.contents (held output.new)) output.old output.new result }
+{
+    let (text, status) = told?;
+    write_text(output, text.as_slice())?;
+    Ok(status)
 }
 
 /// The exit status of an outcome: 4 where the entries are no finished run, else 1 where one is refused or unset, else 0.

@@ -6,7 +6,7 @@ ghost use Rattle.program_text.specs.Programs.{contents};
 ghost use Rattle.command_streams.specs.Watched.{held, has_failed, calls_of, IsCalledAtMost};
 ghost use Rattle.command_streams.specs.Streams.{most_reads};
 ghost use Rattle.command_streams.specs.Readings.{reading};
-ghost use Rattle.tool_commands.specs.Programs.{fault_of_program, IsProgramFault, StopsProgram};
+ghost use Rattle.tool_commands.specs.Programs.{IsProgramFault, StopsProgram};
 ghost use Rattle.tool_commands.specs.Runs.{IsProgramRead};
 
 use command_streams::{CliFault, Watched, read_text};
@@ -15,24 +15,15 @@ use std::alloc::Allocator;
 use std::io::Read;
 use text_words::TextFault;
 
-/// The fault of a program's text as one of the command. Want of memory is want of memory wherever it comes.
-fn program_fault(fault: TextFault) -> CliFault
-    ensures { result ≡ fault_of_program fault }
-{
-    match fault {
-        TextFault::Memory => CliFault::Memory,
-        fault => CliFault::Program(fault),
-    }
-}
-
-/// The program that a text means, which is let go.
+/// The program that a text means, which is let go. Want of memory is want of memory wherever it comes.
 fn parse_program<A: Allocator + Copy>(alloc: A, text: Vec<u8, A>) -> Result<Program<A>, CliFault>
     ensures ok { IfOk result (λ program. TextMeans text.items (contents program)) }
     ensures fault { IfErr result (IsProgramFault text.items) }
 {
     match Program::parse(alloc, text.as_slice()) {
         Ok(program) => Ok(program),
-        Err(fault) => Err(program_fault(fault)),
+        Err(TextFault::Memory) => Err(CliFault::Memory),
+        Err(fault) => Err(CliFault::Program(fault)),
     }
 }
 

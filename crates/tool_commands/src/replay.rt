@@ -12,9 +12,9 @@ ghost use Rattle.command_streams.specs.Readings.{reading};
 
 use crate::ask::ask_all;
 use crate::declarations::declare_same;
-use crate::outcome::{outcome_line, outcome_of, outcome_status};
+use crate::outcome::{outcome_line, outcome_of, outcome_status, write_told};
 use crate::program::read_program;
-use command_streams::{CliFault, Watched, read_trace, write_text};
+use command_streams::{CliFault, Watched, read_trace};
 use program_text::Program;
 use race_gate::{Gate, GateFault};
 use std::alloc::Allocator;
@@ -93,20 +93,7 @@ pub fn replay_text<A: Allocator + Copy, P: Read, T: Read, W: Write>(
     ensures program_reads { IsCalledAtMost most_reads (calls_of program.old) (calls_of program.new) }
     ensures trace_reads { IsCalledAtMost most_reads (calls_of trace.old) (calls_of trace.new) }
 {
-    let program = match read_program(alloc, program) {
-        Ok(program) => program,
-        Err(fault) => return Err(fault),
-    };
-    let trace = match read_trace(alloc, trace) {
-        Ok(trace) => trace,
-        Err(fault) => return Err(fault),
-    };
-    let (line, status) = match replay_trace(alloc, program, trace) {
-        Ok(told) => told,
-        Err(fault) => return Err(fault),
-    };
-    match write_text(output, line.as_slice()) {
-        Ok(()) => Ok(status),
-        Err(fault) => Err(fault),
-    }
+    let program = read_program(alloc, program)?;
+    let trace = read_trace(alloc, trace)?;
+    write_told(output, replay_trace(alloc, program, trace))
 }

@@ -14,9 +14,9 @@ ghost use Rattle.command_streams.specs.Readings.{reading};
 ghost use Rattle.program_runs.specs.Runs.{IsWholeRun};
 ghost use Rattle.tool_commands.specs.Runs.{fault_of_run, run_line, IsRunFault, TellsRun, IsRan, HasRunCause};
 
-use crate::outcome::whole_status;
+use crate::outcome::{whole_status, write_told};
 use crate::program::read_program;
-use command_streams::{CliFault, Watched, write_text};
+use command_streams::{CliFault, Watched};
 use locked_replay::{RunFault, Whole};
 use program_runs::{Door, run_by_workers};
 use program_text::Program;
@@ -138,7 +138,8 @@ pub fn run_text<
     ensures reads { IsCalledAtMost most_reads (calls_of program.old) (calls_of program.new) }
 {
     let program = read_program(heap, program)?;
-    let (line, status) = run_and_report(rt, alloc, heap, &program, workers, door, limit)?;
-    write_text(output, line.as_slice())?;
-    Ok(status)
+    write_told(
+        output,
+        run_and_report(rt, alloc, heap, &program, workers, door, limit),
+    )
 }

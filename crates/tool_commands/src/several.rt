@@ -11,7 +11,8 @@ ghost use Rattle.tool_commands.specs.Several.{lacks_first};
 
 use crate::explain::{Manner, Rendering};
 use crate::explain_traces::Traces;
-use command_streams::{CliFault, Host, Watched, write_text};
+use crate::outcome::write_told;
+use command_streams::{CliFault, Host, Watched};
 use race_explanations::Extent;
 use std::alloc::Global;
 use std::io::Write;
@@ -96,7 +97,8 @@ pub fn explain_files<H: Host, W: Write>(
     ensures devices { LeavesDevices result (has_failed host.new) output.old output.new }
     ensures lacking { lacks_first (H.lacks (held host.old)) (map string_bytes files.now) → IsErrOf result CliFault.Read }
 {
-    let (told, status) = explain_texts(alloc, host, is_painted, extent, rendering, files)?;
-    write_text(output, told.as_slice())?;
-    Ok(status)
+    write_told(
+        output,
+        explain_texts(alloc, host, is_painted, extent, rendering, files),
+    )
 }

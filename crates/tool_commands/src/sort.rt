@@ -1,10 +1,10 @@
 //! Whether a text is to mean a program or a trace.
 
-ghost use Rattle.std.specs.Prelude.{◌≡◌, ◌==◌, Bool, Some, unwrap_or};
+ghost use Rattle.std.specs.Prelude.{◌≡◌, ◌==◌, Bool, unwrap_or};
 ghost use Rattle.std.specs.List.{before_first, find, slice_split};
 ghost use Rattle.std.specs.Option.{option_map};
 ghost use Rattle.text_words.specs.Text.{is_blank, is_hash, is_nonempty};
-ghost use Rattle.tool_commands.specs.Sorts.{first_word, is_declaring, decided, is_program_text};
+ghost use Rattle.tool_commands.specs.Sorts.{first_word, decided, is_program_text};
 
 use text_words::{as_text, split_line, without_comment, without_return};
 
@@ -33,31 +33,13 @@ fn first_word(line: &[u8]) -> Option<&str>
     }
 }
 
-/// Whether a line that begins with this word declares a name.
-fn is_declaring(word: &str) -> bool
-    ensures { result ≡ is_declaring word.now }
-{
-    word == "mem" || word == "reducer"
-}
-
-/// What a first word decides: that the text is to mean a program, or that it is not; nothing where it declares a name.
-fn sort_by(word: &str) -> Option<bool>
-    ensures { (behind : Bool) → unwrap_or result behind ≡ decided (Some word.now) behind }
-{
-    if is_declaring(word) {
-        None
-    } else {
-        Some(word == "func")
-    }
-}
-
-/// What a line decides.
+/// What a line decides by its first word: that the text is to mean a program, or that it is not; nothing where it declares a name.
 fn sort_of(line: &[u8]) -> Option<bool>
     ensures { (behind : Bool) → unwrap_or result behind ≡ decided (first_word line.now) behind }
 {
     match first_word(line) {
-        Some(word) => sort_by(word),
-        None => None,
+        None | Some("mem" | "reducer") => None,
+        Some(word) => Some(word == "func"),
     }
 }
 

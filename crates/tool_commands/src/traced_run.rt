@@ -13,10 +13,10 @@ ghost use Rattle.command_streams.specs.Watched.{held, has_failed, is_delivered, 
 ghost use Rattle.command_streams.specs.Streams.{most_reads};
 ghost use Rattle.command_streams.specs.Readings.{reading};
 ghost use Rattle.tool_commands.specs.Runs.{IsRunFault};
-ghost use Rattle.tool_commands.specs.Traced.{writing, TellsTraced, IsReadTraced, IsTraced, StopsRun, StopsTrace, StopsTelling};
+ghost use Rattle.tool_commands.specs.Traced.{writing, TellsTraced, IsReadTraced, IsTraced, StopsRun, StopsTelling};
 ghost use Rattle.tool_commands.specs.Traced.{HasTracedCause, TellsTrace, IsTraceWritten, HasTraceCause};
 
-use crate::outcome::whole_status;
+use crate::outcome::{whole_status, write_told};
 use crate::program::read_program;
 use crate::run::{report_line, whole_run};
 use command_streams::{CliFault, Watched, write_text};
@@ -103,20 +103,6 @@ pub fn trace_run_of_text<D: Door + Sync, P: Read, R: Threads + Wait + Sync>(
     trace_run(rt, alloc, &program, workers, door, limit)
 }
 
-/// Writes a trace.
-fn write_trace<T: Write>(trace: &mut Watched<T>, text: &[u8]) -> Result<(), CliFault>
-    requires { has_failed trace.old ≡ false }
-    ensures ok { OnOk result (Appends (T.contents (held trace.old)) (T.contents (held trace.new)) text.now) }
-    ensures fault { IfErr result (StopsTrace (T.contents (held trace.old)) (T.contents (held trace.new)) text.now) }
-    ensures delivered { OnOk result (is_delivered trace.new ≡ true) }
-    ensures failed { IsErrOf result CliFault.Unwritten ↔ IsTrue (has_failed trace.new) }
-{
-    match write_text(trace, text) {
-        Ok(()) => Ok(()),
-        Err(_) => Err(CliFault::Unwritten),
-    }
-}
-
 /// Writes what is told of a run: its trace, and once that is delivered its report. It answers the exit status of the run.
 ///
 /// It answers [`CliFault::Unwritten`] exactly where the trace's writer has failed, and [`CliFault::Write`] exactly where the report's has.
@@ -140,9 +126,9 @@ pub fn write_traced_run<T: Write, W: Write>(
     ensures write_failed { IsErrOf result CliFault.Write ↔ IsTrue (has_failed output.new) }
     ensures unwritten { IfErr result (λ fault. fault ≢ CliFault.Write → output.new ≡ output.old) }
 {
-    match write_trace(trace, told.trace.as_slice()) {
+    match write_text(trace, told.trace.as_slice()) {
         Ok(()) => {}
-        Err(fault) => return Err(fault),
+        Err(_) => return Err(CliFault::Unwritten),
     }
     match write_text(output, told.line.as_slice()) {
         Ok(()) => Ok(told.status),
@@ -234,7 +220,8 @@ pub fn write_run_trace<D: Door + Sync, P: Read, W: Write, R: Threads + Wait + Sy
     ensures reads { IsCalledAtMost most_reads (calls_of program.old) (calls_of program.new) }
 {
     let program = read_program(alloc, program)?;
-    let (trace, status) = run_and_trace(rt, alloc, &program, workers, door, limit)?;
-    write_text(output, trace.as_slice())?;
-    Ok(status)
+    write_told(
+        output,
+        run_and_trace(rt, alloc, &program, workers, door, limit),
+    )
 }

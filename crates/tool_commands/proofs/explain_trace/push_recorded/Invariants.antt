@@ -3,7 +3,7 @@ use Rattle.std.specs.String.{string_bytes}
 use Rattle.tool_commands.specs.Explanations.{recorded_line}
 use Rattle.tool_commands.proofs.explain_trace.push_recorded.Given as goal
 
--- what the notes so far say is told
+-- those so far are told
 abbrev pub invariant-loop-run : goal.invariant-loop-run
 invariant-loop-run l =
-    l.told.items ≡ l.initial.told.items ++ flat_map recorded_line (map string_bytes (take l.run-index l.run-items))
+    l.told.items ≡ l.initial.told.items ++ flat_map recorded_line (map string_bytes (take l.run-index l.runs))

@@ -1,15 +1,13 @@
-use Rattle.std.proofs.Common.{ℕ, List, subst}
 use Rattle.std.proofs.lemmas.Result.{err_from_is_err_and}
-use Rattle.std.specs.Io.KnownBytes.{Appends}
 use Rattle.program_text.specs.Programs.{contents}
 use Rattle.command_streams.specs.Watched.{held}
 use Rattle.command_streams.specs.Readings.{reading}
-use Rattle.command_streams.specs.Streams.{StopsWriting}
-use Rattle.command_streams.proofs.Failing.{write_alone}
-use Rattle.tool_commands.proofs.TracedCauses.{trace_stops, trace_cut, trace_written}
 use Rattle.tool_commands.specs.Programs.{StopsProgram}
 use Rattle.tool_commands.specs.Runs.{IsRunFault}
-use Rattle.tool_commands.proofs.Devices.{read_stopped, telling_stopped, writing_stopped, all_written}
+use Rattle.tool_commands.specs.Traced.{TellsTrace, IsTraceWritten, HasTraceCause}
+use Rattle.tool_commands.proofs.TracedCauses.{trace_stops, trace_cut, trace_written}
+use Rattle.tool_commands.proofs.Devices.{read_stopped}
+use Rattle.tool_commands.proofs.Ends.{written, stopped, left_read}
 use Rattle.tool_commands.proofs.ReadPrograms.{no_program_to_trace}
 use Rattle.tool_commands.proofs.traced_run.write_run_trace.Goals as goal
 
@@ -18,24 +16,6 @@ returns-in_err-program-clause-fault g c =
     let gone = err_from_is_err_and c.from_residual.result c.from_residual.ensures.1 in
     rw (gone.1, gone.2) (no_program_to_trace (reading (g.P.Read.remaining (held c.args.program.now)) (g.P.Read.remaining (held c.read_program.new.reader))) _ _ c.args.limit c.in_err-program.field-0.0 c.in_err-program.ensures.fault)
 
-pub returns-clause-answered : goal.returns-clause-answered
-returns-clause-answered g c =
-    trace_written (reading (g.P.Read.remaining (held c.args.program.now)) (g.P.Read.remaining (held c.read_program.new.reader))) _ _ c.args.limit (contents c.in_ok-program.program) _ _ c.in_ok-program.ensures.ok c.in_ok-trace.ensures.ok
-    (subst (λ (text : List ℕ). Appends (g.W.Write.contents (held c.args.output.now)) (g.W.Write.contents (held c.write_text.new.output)) text)
-    c.as_slice.ensures.value c.in_ok-write_text.ensures.ok)
-
-pub returns-in_err-trace-clause-fault : goal.returns-in_err-trace-clause-fault
-returns-in_err-trace-clause-fault g c =
-    let gone = err_from_is_err_and c.from_residual-in_err-trace.result c.from_residual-in_err-trace.ensures.1 in
-    rw (gone.1, gone.2) (trace_stops (reading (g.P.Read.remaining (held c.args.program.now)) (g.P.Read.remaining (held c.read_program.new.reader))) _ _ c.args.limit (contents c.in_ok-program.program) c.in_err-trace.field-0.0 c.in_ok-program.ensures.ok c.in_err-trace.ensures.fault)
-
-pub returns-in_err-write_text-clause-fault : goal.returns-in_err-write_text-clause-fault
-returns-in_err-write_text-clause-fault g c =
-    let gone = err_from_is_err_and c.from_residual-in_err-write_text.result c.from_residual-in_err-write_text.ensures.1 in
-    rw (gone.1, gone.2) (trace_cut (reading (g.P.Read.remaining (held c.args.program.now)) (g.P.Read.remaining (held c.read_program.new.reader))) _ _ c.args.limit _ _ _ c.in_err-write_text.field-0.0 c.in_ok-program.ensures.ok c.in_ok-trace.ensures.ok
-    (subst (λ (text : List ℕ). StopsWriting (g.W.Write.contents (held c.args.output.now)) (g.W.Write.contents (held c.write_text.new.output)) text c.in_err-write_text.field-0.0)
-    c.as_slice.ensures.value c.in_err-write_text.ensures.fault))
-
 pub returns-in_err-program-clause-devices : goal.returns-in_err-program-clause-devices
 returns-in_err-program-clause-devices g c =
     let gone = err_from_is_err_and c.from_residual.result c.from_residual.ensures.1 in
@@ -43,18 +23,25 @@ returns-in_err-program-clause-devices g c =
     (StopsProgram (reading (g.P.Read.remaining (held c.args.program.now)) (g.P.Read.remaining (held c.read_program.new.reader))))
     c.in_err-program.ensures.failed c.in_err-program.ensures.fault (λ stops. stops) c.requires.writer)
 
-pub returns-in_err-trace-clause-devices : goal.returns-in_err-trace-clause-devices
-returns-in_err-trace-clause-devices g c =
-    let gone = err_from_is_err_and c.from_residual-in_err-trace.result c.from_residual-in_err-trace.ensures.1 in
-    rw (gone.1, gone.2) (telling_stopped c.in_err-trace.field-0.0 _ _ c.in_ok-program.program (IsRunFault (contents c.in_ok-program.program) c.args.limit) c.in_ok-program.ensures.failed
-    c.in_err-trace.ensures.fault (λ stops. stops) (λ stops. stops) c.requires.writer)
+pub returns-clause-answered : goal.returns-clause-answered
+returns-clause-answered g c =
+    let program = contents c.in_ok-program.program in
+    written c.run_and_trace.result (g.W.Write.contents (held c.args.output.now)) (g.W.Write.contents (held c.write_told.new.output)) c.args.output.now c.write_told.new.output c.write_told.result c.write_told.ensures
+    (TellsTrace program c.args.limit) (IsTraceWritten (reading (g.P.Read.remaining (held c.args.program.now)) (g.P.Read.remaining (held c.read_program.new.reader)))
+    (g.W.Write.contents (held c.args.output.now)) (g.W.Write.contents (held c.write_told.new.output)) c.args.limit) c.run_and_trace.ensures.ok
+    (λ trace status tells wrote. trace_written _ _ _ c.args.limit program trace status c.in_ok-program.ensures.ok tells wrote)
 
-pub returns-in_err-write_text-clause-devices : goal.returns-in_err-write_text-clause-devices
-returns-in_err-write_text-clause-devices g c =
-    let gone = err_from_is_err_and c.from_residual-in_err-write_text.result c.from_residual-in_err-write_text.ensures.1 in
-    rw (gone.1, gone.2) (writing_stopped c.in_err-write_text.field-0.0 _ _ c.in_ok-program.program _ c.in_ok-program.ensures.failed
-    (write_alone _ _ _ _ c.in_err-write_text.ensures.fault) c.in_err-write_text.ensures.failed)
+pub returns-clause-fault : goal.returns-clause-fault
+returns-clause-fault g c =
+    let program = contents c.in_ok-program.program in
+    stopped c.run_and_trace.result (g.W.Write.contents (held c.args.output.now)) (g.W.Write.contents (held c.write_told.new.output)) c.args.output.now c.write_told.new.output c.write_told.result c.write_told.ensures
+    (TellsTrace program c.args.limit) (IsRunFault program c.args.limit) (HasTraceCause (reading (g.P.Read.remaining (held c.args.program.now)) (g.P.Read.remaining (held c.read_program.new.reader)))
+    (g.W.Write.contents (held c.args.output.now)) (g.W.Write.contents (held c.write_told.new.output)) c.args.limit) c.run_and_trace.ensures.ok c.run_and_trace.ensures.fault
+    (λ fault stops. trace_stops _ _ _ c.args.limit program fault c.in_ok-program.ensures.ok stops)
+    (λ trace status fault tells stops. trace_cut _ _ _ c.args.limit program trace status fault c.in_ok-program.ensures.ok tells stops)
 
 pub returns-clause-devices : goal.returns-clause-devices
 returns-clause-devices g c =
-    all_written _ _ _ _ c.in_ok-program.program _ c.in_ok-program.ensures.failed c.in_ok-write_text.ensures.delivered c.in_ok-write_text.ensures.failed
+    left_read c.run_and_trace.result (g.W.Write.contents (held c.args.output.now)) (g.W.Write.contents (held c.write_told.new.output)) c.args.output.now c.write_told.new.output c.write_told.result c.write_told.ensures
+    _ c.in_ok-program.program c.in_ok-program.ensures.failed (IsRunFault (contents c.in_ok-program.program) c.args.limit) c.run_and_trace.ensures.fault
+    (λ stops. stops) (λ stops. stops) c.requires.writer
