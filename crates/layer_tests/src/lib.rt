@@ -10,6 +10,8 @@ mod checks;
 #[cfg(test)]
 mod gates;
 #[cfg(test)]
+mod openings;
+#[cfg(test)]
 mod programs;
 #[cfg(test)]
 mod strands;

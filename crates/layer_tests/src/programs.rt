@@ -9,8 +9,6 @@ mod locks;
 #[cfg(test)]
 mod meeting;
 #[cfg(test)]
-mod openings;
-#[cfg(test)]
 mod replays;
 #[cfg(test)]
 mod reports;

@@ -11,8 +11,6 @@ mod explanations;
 #[cfg(test)]
 mod faults;
 #[cfg(test)]
-mod openings;
-#[cfg(test)]
 mod pairs;
 #[cfg(test)]
 mod quotes;

@@ -9,9 +9,9 @@ use linked_list_allocator::LocalHeap;
 use shadow_history::{Shadow, Witness, laws};
 use sp_labels::Strands;
 use std::alloc::{AllocError, Allocator, Global};
+use std::test::Fail;
 
 /// What a strand does: the accesses are to location 0 or 1.
-#[derive(Clone, Copy)]
 enum Act {
     Spawn,
     Sync,
@@ -42,7 +42,7 @@ fn step<A: Allocator>(
     shadow: &mut Shadow<A>,
     entry: u32,
     strand: u32,
-    act: Act,
+    act: &Act,
 ) -> Option<Witness>
     requires stands { StandsOn shadow.old strands.old }
     requires locations { 2 ≤ length shadow.old }
@@ -67,6 +67,7 @@ fn step<A: Allocator>(
             None
         }
         Access(kind, location) => {
+            let (kind, location) = (*kind, *location);
             if location > 1 || !is_memory(kind) || !strands.is_running(strand) {
                 return None;
             }
@@ -103,21 +104,13 @@ fn finds_all<A: Allocator>(
     requires locations { 2 ≤ length shadow.old }
 {
     let mut entry = 0u32;
-    for (strand, asked, expected) in acts {
+    for (strand, act, expected) in acts {
         entry = entry.wrapping_add(1);
-        if step(strands, shadow, entry, *strand, *asked) != *expected {
+        if step(strands, shadow, entry, *strand, act) != *expected {
             return false;
         }
     }
     true
-}
-
-/// The same of new strands.
-fn finds_anew(alloc: Global, acts: &[Found]) -> bool {
-    match opening(alloc, alloc, 2) {
-        Ok((mut strands, mut shadow)) => finds_all(&mut strands, &mut shadow, acts),
-        Err(_) => false,
-    }
 }
 
 /// A bump, write or read by a child, and another access by its continuation, which finds the first or nothing. In another cell it finds
@@ -199,31 +192,26 @@ const RUNS: &[&[Found]] = &[
 ];
 
 #[test]
-fn an_access_finds_the_access_that_it_races_with(rt: HostRuntime) {
+fn an_access_finds_the_access_that_it_races_with(rt: HostRuntime) -> Result<(), Fail> {
     for (place, acts) in RUNS.iter().enumerate() {
-        equal(&rt, &place, &finds_anew(rt.alloc(), acts), &true);
+        let (mut strands, mut shadow) = opening(rt.alloc(), rt.alloc(), 2)?;
+        equal(
+            &rt,
+            &place,
+            &finds_all(&mut strands, &mut shadow, acts),
+            &true,
+        );
     }
+    Ok(())
 }
 
-/// The bytes that the shadow history of so many locations takes from a heap of so many bytes: 0 where it is refused, and none without a
-/// heap.
-fn count_bytes(alloc: Global, bytes: usize, locations: u32) -> Option<usize> {
-    match LocalHeap::new(alloc, bytes) {
-        Ok(heap) => Some(count_bytes_from(&heap, locations)),
-        Err(_) => None,
+/// The bytes that the shadow history of so many locations takes from a heap of so many bytes: 0 where it is refused.
+fn count_bytes(alloc: Global, bytes: usize, locations: u32) -> Result<usize, AllocError> {
+    let heap = LocalHeap::new(alloc, bytes)?;
+    match Shadow::new(&heap, locations) {
+        Ok(_shadow) => Ok(heap.used()),
+        Err(_) => Ok(0),
     }
-}
-
-fn count_bytes_from(heap: &LocalHeap, locations: u32) -> usize {
-    match Shadow::new(heap, locations) {
-        Ok(_shadow) => heap.used(),
-        Err(_) => 0,
-    }
-}
-
-/// Whether the heap has used up so many bytes, and has no room for a second shadow history.
-fn is_used_up(heap: &LocalHeap, bytes: usize) -> bool {
-    heap.used() == bytes && Shadow::new(heap, 1).is_err()
 }
 
 /// A write and a read of location 1 find nothing.
@@ -232,49 +220,39 @@ const NOTHING: &[Found] = &[
     (0, Access(Kind::Read, 1), None),
 ];
 
-/// Whether accesses of so many locations take no bytes of the heap beyond so many, which their cells take.
-fn takes_no_more(alloc: Global, heap: &LocalHeap, locations: u32, bytes: usize) -> bool
+/// Whether accesses of so many locations take no bytes of the heap beyond so many, which their cells take: then it has no room for a second
+/// shadow history.
+fn takes_no_more(
+    alloc: Global,
+    heap: &LocalHeap,
+    locations: u32,
+    bytes: usize,
+) -> Result<bool, AllocError>
     requires { 2 ≤ locations }
 {
-    match opening(alloc, heap, locations) {
-        Ok((mut strands, mut shadow)) => {
-            is_used_up(heap, bytes)
-                && finds_all(&mut strands, &mut shadow, NOTHING)
-                && heap.used() == bytes
-        }
-        Err(_) => false,
-    }
+    let (mut strands, mut shadow) = opening(alloc, heap, locations)?;
+    Ok(
+        heap.used() == bytes
+            && Shadow::new(heap, 1).is_err()
+            && finds_all(&mut strands, &mut shadow, NOTHING)
+            && heap.used() == bytes,
+    )
 }
 
-/// Whether accesses take no bytes beyond those of the cells of so many locations, and a heap of these has no room for a second allocation.
-fn takes_only(alloc: Global, locations: u32, bytes: usize) -> bool
-    requires { 2 ≤ locations }
-{
-    match LocalHeap::new(alloc, bytes) {
-        Ok(heap) => takes_no_more(alloc, &heap, locations, bytes),
-        Err(_) => false,
-    }
-}
-
-fn laws_hold() {
+/// A million locations take a thousand times the bytes of a thousand. A heap of as many bytes has room for them, and one of 16 bytes less has
+/// none.
+#[test]
+fn many_locations_take_one_allocation_or_are_refused(rt: HostRuntime) -> Result<(), Fail> {
+    let bytes = count_bytes(rt.alloc(), 64_000_000, 1_000_000)?;
+    assert!(rt; 16 < bytes && bytes % 1_000 == 0);
+    let of_few = count_bytes(rt.alloc(), 64_000, 1_000)?;
+    let of_many = count_bytes(rt.alloc(), bytes, 1_000_000)?;
+    let without_room = count_bytes(rt.alloc(), bytes - 16, 1_000_000)?;
+    let wanted = (bytes / 1_000, bytes, 0);
+    equal(&rt, &"bytes", &(of_few, of_many, without_room), &wanted);
+    let heap = LocalHeap::new(rt.alloc(), bytes)?;
+    assert!(rt; takes_no_more(rt.alloc(), &heap, 1_000_000, bytes)?);
     laws::later_law();
     laws::place_law();
-}
-
-/// Whether these are the bytes of a million locations, a thousand times those of a thousand. A heap of as many has room for them, and one of
-/// 16 bytes less has none.
-fn are_of_many(alloc: Global, bytes: usize) -> bool {
-    16 < bytes
-        && bytes % 1_000 == 0
-        && count_bytes(alloc, 64_000, 1_000) == Some(bytes / 1_000)
-        && count_bytes(alloc, bytes, 1_000_000) == Some(bytes)
-        && count_bytes(alloc, bytes - 16, 1_000_000) == Some(0)
-}
-
-#[test]
-fn many_locations_take_one_allocation_or_are_refused(rt: HostRuntime) {
-    laws_hold();
-    let bytes = count_bytes(rt.alloc(), 64_000_000, 1_000_000).unwrap_or(0);
-    assert!(rt; are_of_many(rt.alloc(), bytes));
-    assert!(rt; takes_only(rt.alloc(), 1_000_000, bytes));
+    Ok(())
 }

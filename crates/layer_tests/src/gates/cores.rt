@@ -24,22 +24,6 @@ fn opening(alloc: Global, monoids: &[Monoid], limit: u32) -> Result<Core<Global>
     Core::new(alloc, &shape, limit)
 }
 
-/// How many entries there were, whether the root function has returned, whether the core was stopped, and its limit.
-type Shown = (u32, bool, bool, u32);
-
-/// What is done with a core, or seen in it.
-#[derive(Clone, Copy)]
-enum Step {
-    /// An act of strand 0, and what the core makes of it.
-    Judges(Act, Result<Answer, GateFault>),
-    /// The core is stopped.
-    Stops,
-    /// The core shows this, and its only cell holds this number.
-    Shows(Shown, u64),
-}
-
-use Step::{Judges, Shows, Stops};
-
 /// An act of strand 0 on line 1.
 macro_rules! request {
     ($act:expr) => {
@@ -51,73 +35,65 @@ macro_rules! request {
     };
 }
 
-/// What the core shows.
+/// How many entries there were, whether the root function has returned, whether the core was stopped, its limit, and the number in its first
+/// cell.
+type Shown = (u32, bool, bool, u32, Option<u64>);
+
 fn show_core(core: &Core<Global>) -> Shown {
     (
         core.entries(),
         core.is_finished(),
         core.is_stopped(),
         core.limit(),
+        core.memory().first().copied(),
     )
 }
 
-/// Whether a step has its outcome.
-fn goes(core: &mut Core<Global>, step: Step) -> bool {
-    match step {
-        Judges(act, outcome) => core.judge(request!(act)) == outcome,
-        Stops => {
-            core.stop();
-            true
-        }
-        Shows(shown, cell) => show_core(core) == shown && core.memory().first() == Some(&cell),
+/// An act of strand 0, and what the core makes of it.
+type Judged = (Act, Result<Answer, GateFault>);
+
+/// Checks what the core makes of each act, one after another.
+fn check(rt: &impl Abort, core: &mut Core<Global>, judged: &[Judged]) {
+    for (act, outcome) in judged {
+        equal(rt, act, &core.judge(request!(*act)), outcome);
     }
 }
 
-/// How many of the steps have their outcomes, one after another, up to the first that has another.
-fn count_steps(core: &mut Core<Global>, steps: &[Step]) -> usize {
-    let mut count = 0usize;
-    for step in steps {
-        if !goes(core, *step) {
-            break;
-        }
-        count = count.wrapping_add(1);
-    }
-    count
-}
-
-/// Takes the steps with a new core of this limit.
-fn check(rt: &impl Abort, alloc: Global, limit: u32, steps: &[Step]) -> Result<(), Fail>
-    requires { limit ≤ most_entries }
-{
-    let mut core = opening(alloc, &[], limit)?;
-    equal(rt, &"steps", &count_steps(&mut core, steps), &steps.len());
-    Ok(())
-}
-
-/// A core with the limit 4 runs a program to its end.
-const RUNS: &[Step] = &[
-    Judges(Act::Write(0, 5), Ok(Answer::Granted)),
-    Judges(Act::Read(1), Err(GateFault::BadName)),
-    Judges(Act::Bump(0, 2), Ok(Answer::Granted)),
-    Judges(Act::Read(0), Ok(Answer::Value(7))),
-    Shows((3, false, false, 4), 7),
-    Judges(Act::Return, Ok(Answer::Finished)),
-    Judges(Act::Read(0), Err(GateFault::Limit)),
-    Shows((4, true, false, 4), 7),
+/// Accesses by a core with the limit 4, and the end of its program.
+const ACCESSES: &[Judged] = &[
+    (Act::Write(0, 5), Ok(Answer::Granted)),
+    (Act::Read(1), Err(GateFault::BadName)),
+    (Act::Bump(0, 2), Ok(Answer::Granted)),
+    (Act::Read(0), Ok(Answer::Value(7))),
 ];
+
+const END: &[Judged] = &[
+    (Act::Return, Ok(Answer::Finished)),
+    (Act::Read(0), Err(GateFault::Limit)),
+];
+
+const BEFORE_STOP: &[Judged] = &[(Act::Write(0, 5), Ok(Answer::Granted))];
+
+const BEHIND_STOP: &[Judged] = &[(Act::Read(0), Err(GateFault::Stopped))];
 
 /// A stopped core judges nothing, and keeps what it had.
-const STOPPED: &[Step] = &[
-    Judges(Act::Write(0, 5), Ok(Answer::Granted)),
-    Stops,
-    Judges(Act::Read(0), Err(GateFault::Stopped)),
-    Shows((1, false, true, 2), 5),
-];
-
 #[test]
 fn a_core_judges_as_a_gate_does_until_it_is_stopped(rt: HostRuntime) -> Result<(), Fail> {
-    check(&rt, rt.alloc(), 4, RUNS)?;
-    check(&rt, rt.alloc(), 2, STOPPED)
+    let mut core = opening(rt.alloc(), &[], 4)?;
+    check(&rt, &mut core, ACCESSES);
+    let wanted = (3, false, false, 4, Some(7));
+    equal(&rt, &"accesses", &show_core(&core), &wanted);
+    check(&rt, &mut core, END);
+    let wanted = (4, true, false, 4, Some(7));
+    equal(&rt, &"end", &show_core(&core), &wanted);
+
+    let mut core = opening(rt.alloc(), &[], 2)?;
+    check(&rt, &mut core, BEFORE_STOP);
+    core.stop();
+    check(&rt, &mut core, BEHIND_STOP);
+    let wanted = (1, false, true, 2, Some(5));
+    equal(&rt, &"stop", &show_core(&core), &wanted);
+    Ok(())
 }
 
 /// The reply that a request was answered so under this number.
@@ -163,20 +139,20 @@ fn reply_to_reducer(core: &mut Core<Global>, request: Request, act: ReducerAct) 
     }
 }
 
-/// The replies of a core that was asked nothing.
-fn replies_of(core: &mut Core<Global>) -> [Reply; 5] {
-    [
-        reply_to_cell(core, request!(Act::Write(0, 5)), CellAct::Write(0, 5)),
-        reply_to_reducer(core, request!(Act::Update(0, 2)), ReducerAct::Update(0, 2)),
-        core.reply_to_control(request!(Act::Sync), ControlAct::Sync),
-        core.reply(request!(Act::Read(0))),
-        reply_to_cell(core, request!(Act::Read(0)), CellAct::Read(0)),
-    ]
-}
-
 #[test]
 fn a_core_replies_to_requests_of_a_known_sort(rt: HostRuntime) -> Result<(), Fail> {
     let mut core = opening(rt.alloc(), &[Monoid::Sum], 4)?;
-    equal(&rt, &"replies", &replies_of(&mut core), &REPLIES);
+    let replies = [
+        reply_to_cell(&mut core, request!(Act::Write(0, 5)), CellAct::Write(0, 5)),
+        reply_to_reducer(
+            &mut core,
+            request!(Act::Update(0, 2)),
+            ReducerAct::Update(0, 2),
+        ),
+        core.reply_to_control(request!(Act::Sync), ControlAct::Sync),
+        core.reply(request!(Act::Read(0))),
+        reply_to_cell(&mut core, request!(Act::Read(0)), CellAct::Read(0)),
+    ];
+    equal(&rt, &"replies", &replies, &REPLIES);
     Ok(())
 }

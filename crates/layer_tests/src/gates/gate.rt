@@ -1,8 +1,5 @@
 //! What a gate answers from its begin to its limit or end, and its faults.
 
-ghost use Rattle.std.specs.Prelude.{◌≤◌};
-ghost use Rattle.model_histories.specs.Shapes.{most_entries};
-
 /// The strand's act, on line 1.
 macro_rules! asked {
     ($strand:literal, $act:expr) => {
@@ -26,23 +23,15 @@ macro_rules! receipt {
 }
 
 use crate::checks::equal;
+use crate::openings::gate_of;
 use Act::{Get, Read, Return, Spawn, Sync, Write};
 use Answer::{Finished, Granted, Same, Split, Value};
 use race_gate::{Answer, Gate, GateFault, Receipt, Reply, judge_all, laws};
 use sp_labels::Spawned;
 use std::alloc::{AllocError, Global};
-use text_words::{Act, Monoids, Request, Shape};
-
-/// A gate of one cell, with this limit.
-fn opening(alloc: Global, limit: u32) -> Result<Gate<Global>, AllocError>
-    requires { limit ≤ most_entries }
-{
-    let shape = Shape {
-        cells: 1,
-        monoids: Monoids::new(Vec::new(alloc)),
-    };
-    Gate::new(alloc, &shape, limit)
-}
+use std::process::Abort;
+use std::test::Fail;
+use text_words::{Act, Request};
 
 /// A request, and what the gate makes of it.
 type Outcome = (Request, Result<Receipt, GateFault>);
@@ -71,14 +60,6 @@ fn judges(gate: &mut Gate<Global>, outcomes: &[Outcome]) -> bool {
     true
 }
 
-/// Whether the gate replies so to the requests, one to each.
-fn replies_to(alloc: Global, gate: &mut Gate<Global>, listed: Listed<'_>) -> bool {
-    match judge_all(gate, alloc, listed.0) {
-        Ok(replies) => replies.as_slice() == listed.1,
-        Err(_) => false,
-    }
-}
-
 /// Whether the gate has its end, its limit and one cell, and is stopped or not.
 fn ends(gate: &Gate<Global>, case: &Case, is_stopped: bool) -> bool {
     let (entries, is_finished, number) = case.end;
@@ -93,27 +74,25 @@ fn ends(gate: &Gate<Global>, case: &Case, is_stopped: bool) -> bool {
 /// What a stopped gate makes of a request.
 const STOPPED: &[Outcome] = &[(asked!(0, Sync), Err(GateFault::Stopped))];
 
-/// Whether the gate answers as it is to, and has its end. There is memory for it.
-fn goes(alloc: Global, gate: &mut Gate<Global>, case: &Case) -> bool {
-    if !(judges(gate, case.outcomes)
-        && replies_to(alloc, gate, case.listed)
-        && ends(gate, case, false))
-    {
-        return false;
-    }
+/// Checks that the gate answers as it is to, and has its end, which stays when it is stopped.
+fn check(
+    rt: &impl Abort,
+    alloc: Global,
+    gate: &mut Gate<Global>,
+    case: &Case,
+) -> Result<(), AllocError> {
+    assert!(rt; judges(gate, case.outcomes), "limit {}", case.limit);
+    let (requests, wanted) = case.listed;
+    let replies = judge_all(gate, alloc, requests)?;
+    equal(rt, &case.limit, &replies.as_slice(), &wanted);
+    assert!(rt; ends(gate, case, false), "limit {}", case.limit);
     gate.stop();
-    judges(gate, STOPPED) && ends(gate, case, true)
-}
-
-/// The same of a gate of its own.
-fn goes_anew(alloc: Global, case: &Case) -> bool {
-    if case.limit > 1_000_000 {
-        return false;
-    }
-    match opening(alloc, case.limit) {
-        Ok(mut gate) => goes(alloc, &mut gate, case),
-        Err(_) => false,
-    }
+    assert!(rt;
+        judges(gate, STOPPED) && ends(gate, case, true),
+        "limit {}",
+        case.limit
+    );
+    Ok(())
 }
 
 /// The first fault of each request, by a gate of the limit 2.
@@ -166,15 +145,6 @@ const RETURNS: Listed<'static> = (
     ],
 );
 
-fn laws_hold() {
-    laws::race_law();
-    laws::verdict_law();
-    laws::read_law();
-    laws::value_law();
-    laws::admission_law();
-    laws::examples_law();
-}
-
 const CASES: &[Case] = &[
     // A gate begins without entries.
     Case {
@@ -207,9 +177,17 @@ const CASES: &[Case] = &[
 ];
 
 #[test]
-fn a_gate_enters_from_its_begin_to_its_limit_or_end(rt: HostRuntime) {
-    laws_hold();
+fn a_gate_enters_from_its_begin_to_its_limit_or_end(rt: HostRuntime) -> Result<(), Fail> {
     for case in CASES {
-        equal(&rt, &case.limit, &goes_anew(rt.alloc(), case), &true);
+        assert!(rt; case.limit <= 1_000_000);
+        let mut gate = gate_of(rt.alloc(), 1, &[], case.limit)?;
+        check(&rt, rt.alloc(), &mut gate, case)?;
     }
+    laws::race_law();
+    laws::verdict_law();
+    laws::read_law();
+    laws::value_law();
+    laws::admission_law();
+    laws::examples_law();
+    Ok(())
 }

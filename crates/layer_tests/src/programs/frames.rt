@@ -8,6 +8,7 @@ use model_strands::Spawned;
 use program_text::Program;
 use race_gate::Answer;
 use std::alloc::Global;
+use std::test::Fail;
 use text_words::Act;
 
 const PAIR: &[u8] =
@@ -40,9 +41,8 @@ const REFUSED: Answer = Answer::Refused {
 };
 
 /// What a frame does.
-#[derive(Clone, Copy)]
 enum Step {
-    /// It asks this on that line.
+    /// It goes on, and asks this on that line.
     Asks(Act, u32),
     /// What it asks is a spawn of this function with that argument.
     Spawns(u32, u64),
@@ -61,42 +61,26 @@ enum Step {
 
 use Step::{Asks, HasJoin, HasRoom, IsOver, Refuses, Reserves, Spawns, Takes};
 
-/// Whether a frame goes on, and asks this next.
-fn asks(program: &Program<Global>, frame: &mut Frame<Global>, act: Act, line: u32) -> bool
-    requires { Stands program.now.functions frame.old }
-    ensures { Stands program.now.functions frame.new }
-{
-    if frame.is_over() {
-        return false;
-    }
-    let want = frame.next(program);
-    want.act == act && want.line == line
-}
-
-/// Whether a frame spawns this function with this argument.
-fn spawns(program: &Program<Global>, frame: &Frame<Global>, function: u32, argument: u64) -> bool
-    requires { Stands program.now.functions frame.now }
-{
-    match frame.spawns(program) {
-        Some(target) => target.function == function && target.argument == argument,
-        None => false,
-    }
-}
-
 /// Whether a frame does this step.
 fn does(program: &Program<Global>, frame: &mut Frame<Global>, step: &Step) -> bool
     requires { Stands program.now.functions frame.old }
     ensures { Stands program.now.functions frame.new }
 {
     match step {
-        Asks(act, line) => asks(program, frame, *act, *line),
-        Spawns(function, argument) => spawns(program, frame, *function, *argument),
+        Asks(act, line) => {
+            if frame.is_over() {
+                return false;
+            }
+            let want = frame.next(program);
+            want.act == *act && want.line == *line
+        }
+        Spawns(function, argument) => match frame.spawns(program) {
+            Some(target) => target.function == *function && target.argument == *argument,
+            None => false,
+        },
         Takes(answer) => frame.answer(program, answer).is_ok(),
         Refuses(answer) => frame.answer(program, answer) == Err(FrameFault::Strange),
-        Reserves => match frame.reserve_call() {
-            Ok(()) => frame.has_room(),
-            Err(_) => false,
-        },
+        Reserves => frame.reserve_call().is_ok() && frame.has_room(),
         HasRoom(wanted) => frame.has_room() == *wanted,
         HasJoin(join) => frame.block_join() == *join,
         IsOver => frame.is_over(),
@@ -113,20 +97,6 @@ fn does_all(program: &Program<Global>, frame: &mut Frame<Global>, steps: &[Step]
         }
     }
     true
-}
-
-/// The same of a new frame of the program's first function.
-fn begins(alloc: Global, program: &Program<Global>, steps: &[Step]) -> bool {
-    let mut frame = Frame::new(alloc, program, 0, 0);
-    does_all(program, &mut frame, steps)
-}
-
-/// The same of the program that a text means.
-fn begins_of(alloc: Global, text: &[u8], steps: &[Step]) -> bool {
-    match Program::parse(alloc, text) {
-        Ok(program) => begins(alloc, &program, steps),
-        Err(_) => false,
-    }
 }
 
 const CASES: &[(&[u8], &[Step])] = &[
@@ -269,9 +239,13 @@ const CASES: &[(&[u8], &[Step])] = &[
     ),
 ];
 
+/// A new frame of each program's first function does these steps.
 #[test]
-fn frames_ask_and_are_answered(rt: HostRuntime) {
+fn frames_ask_and_are_answered(rt: HostRuntime) -> Result<(), Fail> {
     for (text, steps) in CASES {
-        assert!(rt; begins_of(rt.alloc(), text, steps), "{text:?}");
+        let program = Program::parse(rt.alloc(), text)?;
+        let mut frame = Frame::new(rt.alloc(), &program, 0, 0);
+        assert!(rt; does_all(&program, &mut frame, steps), "{text:?}");
     }
+    Ok(())
 }

@@ -2,8 +2,8 @@
 
 ghost use Rattle.std.specs.Prelude.{◌≡◌, ◌<◌, [], IfOk};
 
-use super::openings::{gate_for, gate_of_cells};
 use super::reports::is_reported;
+use crate::openings::{gate_for, gate_of_cells};
 use Act::{Get, Read, Return, Spawn, Sync, Write};
 use Answer::{Ended, Finished, Granted, Joined, Refused, Same, Split, Unset};
 use locked_replay::{LockedGate, RunFault, Seat, Whole, WorkerLog, gather};
@@ -20,23 +20,21 @@ use std::sync::ledger::{Blank, Ledger};
 use text_words::{Act, Request};
 
 /// A run of a program: what is asked and answered, what its cells hold at the end, and its report.
-#[derive(Clone, Copy)]
 pub struct Run<'a> {
-    text: &'a str,
+    pub text: &'a str,
     entries: &'a [Entry],
     memory: &'a [u64],
     told: &'a str,
 }
 
 /// Which run is asked for.
-#[derive(Clone, Copy)]
 pub enum Asked {
     Race,
     Unset,
     Broken,
 }
 
-fn run_of(asked: Asked) -> &'static Run<'static> {
+pub fn run_of(asked: &Asked) -> &'static Run<'static> {
     match asked {
         Asked::Race => &RACE,
         Asked::Unset => &UNSET,
@@ -45,7 +43,6 @@ fn run_of(asked: Asked) -> &'static Run<'static> {
 }
 
 /// Whose logs are gathered.
-#[derive(Clone, Copy)]
 pub enum Logs {
     /// Those of both seats.
     Both,
@@ -56,7 +53,7 @@ pub enum Logs {
 }
 
 /// How many seats there are.
-fn parts_of(logs: Logs) -> u64
+fn parts_of(logs: &Logs) -> u64
     ensures { 0 < result }
 {
     match logs {
@@ -66,7 +63,6 @@ fn parts_of(logs: Logs) -> u64
 }
 
 /// A run, how it is asked, and what is gathered of it.
-#[derive(Clone, Copy)]
 pub struct Case<'a> {
     pub asked: Asked,
     /// The requests at these places are asked on a second seat.
@@ -82,20 +78,7 @@ pub struct Case<'a> {
     pub found: Result<(), RunFault>,
 }
 
-/// Asks on a log's seat, and adds the receipt to the log. Whether it was answered.
-fn ask<L: Ledger, R: Wait>(
-    rt: &R,
-    locked: &LockedGate<L>,
-    log: &mut WorkerLog<L>,
-    request: Request,
-) -> bool {
-    match locked.ask(rt, &mut log.seat, request) {
-        Ok(receipt) => log.receipts.push(receipt).is_ok(),
-        Err(_) => false,
-    }
-}
-
-/// Whether all requests of the run are answered, those at these places on the second seat.
+/// Whether all requests of the run are answered, those at these places on the second seat. The log of a seat takes its receipts.
 fn ask_all<L: Ledger, R: Wait>(
     rt: &R,
     locked: &LockedGate<L>,
@@ -108,7 +91,11 @@ fn ask_all<L: Ledger, R: Wait>(
         let Some(log) = logs.get_mut(seat) else {
             return false;
         };
-        if !ask(rt, locked, log, run.entries[at].request) {
+        let added = match locked.ask(rt, &mut log.seat, run.entries[at].request) {
+            Ok(receipt) => log.receipts.push(receipt).is_ok(),
+            Err(_) => false,
+        };
+        if !added {
             return false;
         }
     }
@@ -124,17 +111,6 @@ fn count<L: Ledger>(logs: &[WorkerLog<L>]) -> u64 {
     asked
 }
 
-/// Whether the gate, once it is stopped, answers nothing more.
-fn is_stopped<L: Ledger, R: Wait>(rt: &R, locked: &LockedGate<L>, seat: &mut Seat<L>) -> bool {
-    locked.stop(rt);
-    let request = Request {
-        strand: 0,
-        act: Sync,
-        line: 1,
-    };
-    matches!(locked.ask(rt, seat, request), Err(GateFault::Stopped))
-}
-
 /// Keeps the receipts at these places. Whether there is memory for it.
 fn keep(alloc: Global, receipts: &mut Receipts, places: &[usize]) -> bool {
     let mut kept = Receipts::new(alloc);
@@ -147,6 +123,13 @@ fn keep(alloc: Global, receipts: &mut Receipts, places: &[usize]) -> bool {
     true
 }
 
+/// What a stopped gate does not answer.
+const ONE_MORE: Request = Request {
+    strand: 0,
+    act: Sync,
+    line: 1,
+};
+
 /// Whether as many requests are asked on the seats as the run has. A stopped gate is stopped then. The first log keeps what the case says.
 fn asks<L: Ledger, R: Wait>(
     rt: &R,
@@ -155,41 +138,40 @@ fn asks<L: Ledger, R: Wait>(
     logs: &mut [WorkerLog<L>],
     case: &Case<'_>,
 ) -> bool {
-    let run = run_of(case.asked);
+    let run = run_of(&case.asked);
     if !ask_all(rt, locked, logs, run, case.second) || count(logs) != run.entries.len() as u64 {
         return false;
     }
-    match logs.first_mut() {
-        Some(first) => {
-            (!case.stopped || is_stopped(rt, locked, &mut first.seat))
-                && keep(alloc, &mut first.receipts, case.kept)
+    let Some(first) = logs.first_mut() else {
+        return false;
+    };
+    if case.stopped {
+        locked.stop(rt);
+        if locked.ask(rt, &mut first.seat, ONE_MORE) != Err(GateFault::Stopped) {
+            return false;
         }
-        None => false,
     }
-}
-
-fn log_of<L: Ledger>(alloc: Global, seat: Seat<L>) -> WorkerLog<L> {
-    WorkerLog {
-        seat,
-        receipts: Receipts::new(alloc),
-    }
+    keep(alloc, &mut first.receipts, case.kept)
 }
 
 /// A log for the only seat, or for each of two seats, of which the second may be lost.
 fn logs_of<L: Ledger>(
     alloc: Global,
     mut seat: Seat<L>,
-    logs: Logs,
+    logs: &Logs,
 ) -> Result<Vec<WorkerLog<L>>, AllocError> {
     let mut made = Vec::with_capacity(alloc, 2)?;
-    if seat.parts() <= 1 {
-        made.push_reserved(log_of(alloc, seat));
-        return Ok(made);
+    if 1 < seat.parts() {
+        made.push_reserved(WorkerLog {
+            seat: seat.split(),
+            receipts: Receipts::new(alloc),
+        });
     }
-    let first = seat.split();
-    made.push_reserved(log_of(alloc, first));
-    if matches!(logs, Logs::Both) {
-        made.push_reserved(log_of(alloc, seat));
+    if !matches!(logs, Logs::First) {
+        made.push_reserved(WorkerLog {
+            seat,
+            receipts: Receipts::new(alloc),
+        });
     }
     Ok(made)
 }
@@ -209,14 +191,7 @@ fn gate(
     }
 }
 
-/// Whether the run has these entries, is not clean, and leaves this memory.
-fn is_whole(alloc: Global, whole: &Whole, run: &Run<'_>) -> Result<bool, AllocError> {
-    let entries = whole.entries.to_vec(alloc)?;
-    let is_memory = whole.memory.as_slice() == run.memory;
-    Ok(entries.as_slice() == run.entries && is_memory && !whole.clean)
-}
-
-/// What is gathered from these logs is this run, with its report.
+/// What is gathered from these logs is this run, which is not clean, with its report.
 fn is_gathered<L: Ledger>(
     rt: &impl Abort,
     alloc: Global,
@@ -227,7 +202,9 @@ fn is_gathered<L: Ledger>(
 ) -> Result<(), RunFault> {
     let whole = gather(alloc, program, locked, logs)?;
     let reported = is_reported(alloc, program, &whole, run.told);
-    assert!(rt; reported && is_whole(alloc, &whole, run)?);
+    let entries = whole.entries.to_vec(alloc)?;
+    assert!(rt; entries.as_slice() == run.entries && whole.memory.as_slice() == run.memory);
+    assert!(rt; reported && !whole.clean);
     Ok(())
 }
 
@@ -248,29 +225,21 @@ fn found_on<L: Ledger, R: Abort + Wait>(
     requires some { 0 < parts }
 {
     let (locked, seat) = LockedGate::<L>::new(gate, blank, parts);
-    let mut logs = logs_of(alloc, seat, case.logs)?;
+    let mut logs = logs_of(alloc, seat, &case.logs)?;
     assert!(rt; asks(rt, alloc, &locked, logs.as_mut_slice(), case));
-    is_gathered(rt, alloc, program, locked, logs, run_of(case.asked))
+    is_gathered(rt, alloc, program, locked, logs, run_of(&case.asked))
 }
 
-/// The same where the program's gate is asked, or one of three cells.
-fn found_by<R: Abort + Wait>(
+/// The same where the program's gate is asked, or one of three cells: the fault of the run, if there is none.
+pub fn found_by<R: Abort + Wait>(
     rt: &R,
     alloc: Global,
     program: &Program<Global>,
     case: &Case<'_>,
 ) -> Result<(), RunFault> {
     let gate = gate(alloc, program, case.three_cells)?;
-    let parts = parts_of(case.logs);
+    let parts = parts_of(&case.logs);
     found_on::<Brand, R>(rt, alloc, Blank::new(parts), parts, program, gate, case)
-}
-
-/// Whether there is the run of the case, or the fault of the case.
-pub fn is_found<R: Abort + Wait>(rt: &R, alloc: Global, case: &Case<'_>) -> bool {
-    match Program::parse(alloc, run_of(case.asked).text.as_bytes()) {
-        Ok(program) => found_by(rt, alloc, &program, case) == case.found,
-        Err(_) => false,
-    }
 }
 
 /// An entry of a run.

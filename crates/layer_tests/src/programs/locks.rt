@@ -1,7 +1,10 @@
 //! Gates that are asked on seats, and what is gathered of them.
 
-use super::gathered::{Asked, Case, Logs, is_found};
+use super::gathered::{Asked, Case, Logs, found_by, run_of};
+use crate::checks::equal;
 use locked_replay::RunFault;
+use program_text::Program;
+use std::test::Fail;
 
 /// A case of a gate that has the program's cells and is not stopped.
 macro_rules! case {
@@ -74,8 +77,11 @@ const CASES: &[Case<'static>] = &[
 ];
 
 #[test]
-fn a_run_with_a_race_is_gathered(rt: HostRuntime) {
-    for case in CASES {
-        assert!(rt; is_found(&rt, rt.alloc(), case));
+fn a_run_with_a_race_is_gathered(rt: HostRuntime) -> Result<(), Fail> {
+    for (place, case) in CASES.iter().enumerate() {
+        let program = Program::parse(rt.alloc(), run_of(&case.asked).text.as_bytes())?;
+        let found = found_by(&rt, rt.alloc(), &program, case);
+        equal(&rt, &place, &found, &case.found);
     }
+    Ok(())
 }

@@ -4,36 +4,19 @@ ghost use Rattle.std.specs.Prelude.{◌≡◌, ◌↔◌, IsTrue, IfOk, OnOk, le
 ghost use Rattle.std.specs.List.{All};
 ghost use Rattle.text_words.specs.Declarations.{cells_of};
 ghost use Rattle.program_text.specs.Programs.{contents};
-ghost use Rattle.model_histories.specs.Extensions.{IsCleanAnswer, IsClean};
+ghost use Rattle.model_histories.specs.Extensions.{IsClean};
 ghost use Rattle.race_report.specs.Conditions.{shape_known, AreTellable};
 ghost use Rattle.verdict_lines.specs.VerdictText.{HasWords};
 
-use super::openings::gate_for;
-use locked_replay::Whole;
-use packed_history::Entries;
+use crate::openings::gate_for;
+use locked_replay::{Whole, is_clean};
 use program_text::Program;
 use race_gate::{Answer, GateFault, Receipt, Reply, ShortGate};
 use race_report::report;
 use std::alloc::{AllocError, Global};
+use std::test::Fail;
 use text_words::{Act, Request};
 use verdict_lines::verdict_lines;
-
-fn is_clean_answer(answer: Answer) -> bool
-    ensures { IsTrue result ↔ IsCleanAnswer answer }
-{
-    !matches!(answer, Answer::Refused { .. } | Answer::Unset)
-}
-
-fn is_clean(entries: &Entries) -> bool
-    ensures { IsTrue result ↔ IsClean entries.now.items }
-{
-    for at in 0..entries.len() {
-        if !is_clean_answer(entries.get(at).answer) {
-            return false;
-        }
-    }
-    true
-}
 
 /// Whether the gate answers these.
 fn answers(gate: &mut ShortGate, requests: &[Request]) -> bool
@@ -90,14 +73,6 @@ fn is_report(
     Ok(is_reported(alloc, program, &whole, wanted))
 }
 
-/// The same of the program of this text.
-fn tells(alloc: Global, text: &str, requests: &[Request], wanted: &str) -> bool {
-    match Program::parse(alloc, text.as_bytes()) {
-        Ok(program) => matches!(is_report(alloc, &program, requests, wanted), Ok(true)),
-        Err(_) => false,
-    }
-}
-
 /// What a strand asks on a line.
 macro_rules! asked {
     ($strand:literal, $act:expr, $line:literal) => {
@@ -138,10 +113,15 @@ const CASES: &[Case<'static>] = &[
 ];
 
 #[test]
-fn reducers_and_arrays(rt: HostRuntime) {
+fn reducers_and_arrays(rt: HostRuntime) -> Result<(), Fail> {
     for (text, requests, wanted) in CASES {
-        assert!(rt; tells(rt.alloc(), text, requests, wanted), "{wanted}");
+        let program = Program::parse(rt.alloc(), text.as_bytes())?;
+        assert!(rt;
+            is_report(rt.alloc(), &program, requests, wanted)?,
+            "{wanted}"
+        );
     }
+    Ok(())
 }
 
 /// The reply to a get that finds nothing, with this number.

@@ -53,11 +53,6 @@ fn arithmetic_is_modulo_two_to_the_64_and_an_index_modulo_the_length(rt: HostRun
     }
 }
 
-/// Whether the registers begin with these two numbers.
-fn begin(registers: &[u64; REGISTERS], ok: u64, argument: u64) -> bool {
-    registers[0] == ok && registers[1] == argument
-}
-
 const WRITE: Statement = Statement::Write {
     line: 4,
     location: Location::Cell(2),
@@ -74,22 +69,19 @@ const ANSWERED: [Answered; 4] = [
     (WRITE, REFUSED, true, 0),
 ];
 
-/// Whether the answers are taken one after another, by registers that begin with `ok` and an argument of 7.
-fn are_answered() -> bool {
-    let mut registers = Activation::begin(0, 7).registers;
-    for (statement, answer, is_one, ok) in ANSWERED {
-        if apply_answer(&mut registers, statement, &answer) != is_one || !begin(&registers, ok, 7) {
-            return false;
-        }
-    }
-    true
-}
-
+/// A function begins with an argument of 7, and takes the answers one after another.
 #[test]
 fn a_function_begins_with_ok_and_a_refused_write_clears_it(rt: HostRuntime) {
     let begun = Activation::begin(3, 7);
     assert!(rt; begun.function == 3 && begun.place == 0 && begun.join == None);
-    assert!(rt; begin(&begun.registers, 1, 7) && begun.registers[2] == 0);
+    assert!(rt; begun.registers[0] == 1 && begun.registers[1] == 7 && begun.registers[2] == 0);
     assert!(rt; act_of(&begun.registers, WRITE) == Some(Act::Write(2, 9)) && line_of(WRITE) == 4);
-    assert!(rt; are_answered());
+    let mut registers = Activation::begin(0, 7).registers;
+    for (statement, answer, is_one, ok) in ANSWERED {
+        assert!(rt;
+            apply_answer(&mut registers, statement, &answer) == is_one,
+            "{statement:?}"
+        );
+        assert!(rt; registers[0] == ok && registers[1] == 7, "{statement:?}");
+    }
 }

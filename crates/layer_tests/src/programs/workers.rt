@@ -3,10 +3,10 @@
 ghost use Rattle.std.specs.Prelude.{◌≡◌, ◌<◌, ◌≤◌};
 
 use super::meeting::Meeting;
-use super::openings::gate_of_cells;
+use crate::checks::equal;
+use crate::openings::gate_of_cells;
 use frame_steps::Frame;
 use locked_replay::{LockedGate, Seat, WorkerLog};
-use packed_history::Receipts;
 use program_text::Program;
 use race_gate::Answer;
 use std::alloc::{AllocError, Global};
@@ -30,24 +30,17 @@ const LATE_PAIR: &[u8] =
 // The parts of a seat, one for each worker that there may be.
 const PARTS: u64 = 64;
 
-// How many of the receipts are answered Finished.
-fn count_finished(receipts: &Receipts) -> usize {
-    let mut finished = 0usize;
-    for at in 0..receipts.len() {
-        if receipts.get(at).answer == Answer::Finished {
-            finished = finished.wrapping_add(1);
-        }
-    }
-    finished
-}
-
 // How many receipts the logs hold, and how many of them are answered Finished.
 fn count_receipts<L: Ledger>(logs: &[WorkerLog<L>]) -> (usize, usize) {
     let mut receipts = 0usize;
     let mut finished = 0usize;
     for log in logs {
         receipts = receipts.wrapping_add(log.receipts.len());
-        finished = finished.wrapping_add(count_finished(&log.receipts));
+        for at in 0..log.receipts.len() {
+            if log.receipts.get(at).answer == Answer::Finished {
+                finished = finished.wrapping_add(1);
+            }
+        }
     }
     (receipts, finished)
 }
@@ -87,7 +80,6 @@ fn meet<L: Ledger + Send + Sync, R: Threads + Wait + Sync>(
 }
 
 // What workers do.
-#[derive(Clone, Copy)]
 enum Does {
     Finish,
     Meet,
@@ -100,7 +92,7 @@ fn do_alike<L: Ledger + Send + Sync, R: Threads + Wait + Sync>(
     program: &Program<Global>,
     blank: Blank,
     workers: usize,
-    does: Does,
+    does: &Does,
 ) -> bool
     requires name { blank.name ≡ L.name }
     requires all { blank.parts ≡ L.parts }
@@ -123,7 +115,7 @@ fn do_of_text<R: Threads + Wait + Sync>(
     alloc: Global,
     text: &[u8],
     workers: usize,
-    does: Does,
+    does: &Does,
 ) -> bool
     requires workers { (0 < workers) × (workers ≤ 64) }
 {
@@ -137,7 +129,7 @@ fn do_of_text<R: Threads + Wait + Sync>(
 fn many_workers_finish_one_run(rt: HostRuntime) {
     for workers in [1usize, 2, 8] {
         assert!(rt;
-            do_of_text(&rt, rt.alloc(), FIB, workers, Does::Finish),
+            do_of_text(&rt, rt.alloc(), FIB, workers, &Does::Finish),
             "{workers} workers"
         );
     }
@@ -145,12 +137,12 @@ fn many_workers_finish_one_run(rt: HostRuntime) {
 
 #[test]
 fn two_at_once(rt: HostRuntime) {
-    assert!(rt; do_of_text(&rt, rt.alloc(), PAIR, 2, Does::Meet));
+    assert!(rt; do_of_text(&rt, rt.alloc(), PAIR, 2, &Does::Meet));
 }
 
 #[test]
 fn an_idle_worker_stays(rt: HostRuntime) {
-    assert!(rt; do_of_text(&rt, rt.alloc(), LATE_PAIR, 2, Does::Meet));
+    assert!(rt; do_of_text(&rt, rt.alloc(), LATE_PAIR, 2, &Does::Meet));
 }
 
 // The task of `main`.
@@ -164,82 +156,63 @@ fn root<'p>(alloc: Global, program: &'p Program<Global>) -> Result<Task<'p>, All
 }
 
 // Who comes for a join.
-#[derive(Clone, Copy)]
 enum Comes {
     Child(u32),
     Task(u32),
 }
 
-// What a lot answers: nobody waits, there is the task of a join, or the same call came before.
-#[derive(Clone, Copy)]
-enum Finds {
-    Nobody,
-    TaskOf(u32),
-    Torn,
-}
-
-// Whether a lot's answer is this.
-fn is_found(found: &Result<Option<Task<'_>>, LotFault>, wanted: Finds) -> bool {
-    match (found, wanted) {
-        (Ok(None), Finds::Nobody) => true,
-        (Ok(Some(task)), Finds::TaskOf(join)) => task.strand == join,
-        (Err(LotFault::Torn), Finds::Torn) => true,
-        _ => false,
-    }
-}
-
-// Whether who comes for a join finds this.
+// The join whose task is found by who comes for a join.
 fn come<'p, R: Wait>(
     rt: &R,
     alloc: Global,
     program: &'p Program<Global>,
     lot: &Lot<'p>,
-    comes: Comes,
-    finds: Finds,
-) -> bool {
-    match comes {
-        Comes::Child(join) => is_found(&lot.wake(rt, join), finds),
-        Comes::Task(join) => match root(alloc, program) {
-            Ok(task) => is_found(&lot.park(rt, join, task), finds),
-            Err(_) => false,
-        },
+    comes: &Comes,
+) -> Result<Option<u32>, LotFault> {
+    let found = match comes {
+        Comes::Child(join) => lot.wake(rt, *join)?,
+        Comes::Task(join) => {
+            let Ok(task) = root(alloc, program) else {
+                return Err(LotFault::Memory);
+            };
+            lot.park(rt, *join, task)?
+        }
+    };
+    match found {
+        Some(task) => Ok(Some(task.strand)),
+        None => Ok(None),
     }
 }
 
-const ROW: &[(Comes, Finds)] = &[
-    (Comes::Child(3), Finds::Nobody),
-    (Comes::Task(3), Finds::TaskOf(3)),
-    (Comes::Child(3), Finds::Torn),
-    (Comes::Child(6), Finds::Nobody),
-    (Comes::Child(6), Finds::Torn),
-    (Comes::Task(4), Finds::Nobody),
-    (Comes::Child(4), Finds::TaskOf(4)),
-    (Comes::Task(5), Finds::Nobody),
-    (Comes::Task(5), Finds::Torn),
+// Who comes for a join, and the join whose task is found: none where nobody waits, and Torn where the same call came before.
+const ROW: &[(Comes, Result<Option<u32>, LotFault>)] = &[
+    (Comes::Child(3), Ok(None)),
+    (Comes::Task(3), Ok(Some(3))),
+    (Comes::Child(3), Err(LotFault::Torn)),
+    (Comes::Child(6), Ok(None)),
+    (Comes::Child(6), Err(LotFault::Torn)),
+    (Comes::Task(4), Ok(None)),
+    (Comes::Child(4), Ok(Some(4))),
+    (Comes::Task(5), Ok(None)),
+    (Comes::Task(5), Err(LotFault::Torn)),
     // Joins with greater numbers than a gate gives.
-    (Comes::Task(4_194_304), Finds::Nobody),
-    (Comes::Child(4_194_304), Finds::TaskOf(4_194_304)),
-    (Comes::Child(4_200_000), Finds::Nobody),
-    (Comes::Task(4_200_000), Finds::TaskOf(4_200_000)),
+    (Comes::Task(4_194_304), Ok(None)),
+    (Comes::Child(4_194_304), Ok(Some(4_194_304))),
+    (Comes::Child(4_200_000), Ok(None)),
+    (Comes::Task(4_200_000), Ok(Some(4_200_000))),
 ];
 
-// Whether each that comes for a join of a lot of the program finds what stands beside it in the row. The lot is closed once it is told to be,
-// and not before.
-fn come_for_row<R: Wait>(rt: &R, alloc: Global, program: &Program<Global>) -> bool {
-    let lot = Lot::new(alloc);
-    for (comes, finds) in ROW {
-        if !come(rt, alloc, program, &lot, *comes, *finds) {
-            return false;
-        }
-    }
-    let early = lot.look(rt);
-    lot.close(rt);
-    lot.look(rt) && !early
-}
-
+// A lot is closed once it is told to be, and not before.
 #[test]
 fn second_comer_gets_the_task(rt: HostRuntime) -> Result<(), Fail> {
     let program = Program::parse(rt.alloc(), PAIR)?;
-    assert!(rt; come_for_row(&rt, rt.alloc(), &program));
+    let lot = Lot::new(rt.alloc());
+    for (place, (comes, wanted)) in ROW.iter().enumerate() {
+        let found = come(&rt, rt.alloc(), &program, &lot, comes);
+        equal(&rt, &place, &found, wanted);
+    }
+    assert!(rt; !lot.look(&rt));
+    lot.close(&rt);
+    assert!(rt; lot.look(&rt));
     Ok(())
 }

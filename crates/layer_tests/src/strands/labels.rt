@@ -2,7 +2,6 @@
 
 use sp_labels::{Returned, SpFault, Spawned, Strands, Synced};
 use std::alloc::Global;
-use std::process::Abort;
 use std::test::Fail;
 
 /// The outcome of a spawn that begins these strands, the first of its block or not.
@@ -41,17 +40,7 @@ fn compare(strands: &Strands<Global>, a: u32, b: u32) -> Option<Relation> {
     ])
 }
 
-/// Whether a strand has begun, whether it runs, and whether there is room.
-fn standing(strands: &Strands<Global>, strand: u32) -> [bool; 3] {
-    [
-        strands.is_begun(strand),
-        strands.is_running(strand),
-        strands.has_room(),
-    ]
-}
-
 /// What is asked of strands or seen in them. What is asked has its outcome last.
-#[derive(Clone, Copy)]
 enum Step {
     /// A strand spawns.
     Spawns(u32, Result<Spawned, SpFault>),
@@ -103,27 +92,22 @@ fn fills(strands: &mut Strands<Global>) -> bool {
 }
 
 /// Whether a step has its outcome.
-fn goes(strands: &mut Strands<Global>, step: Step) -> bool {
+fn goes(strands: &mut Strands<Global>, step: &Step) -> bool {
     match step {
-        Spawns(strand, wanted) => strands.spawn(strand) == wanted,
-        Syncs(strand, wanted) => strands.sync(strand) == wanted,
-        Calls(strand) => strands.call(strand).is_ok(),
-        Returns(strand, wanted) => strands.ret(strand) == wanted,
-        Reserves(wanted) => strands.reserve_event() == wanted,
-        Stands(strand, wanted) => standing(strands, strand) == wanted,
-        Relates(a, b, wanted) => compare(strands, a, b) == wanted,
+        Spawns(strand, wanted) => strands.spawn(*strand) == *wanted,
+        Syncs(strand, wanted) => strands.sync(*strand) == *wanted,
+        Calls(strand) => strands.call(*strand).is_ok(),
+        Returns(strand, wanted) => strands.ret(*strand) == *wanted,
+        Reserves(wanted) => strands.reserve_event() == *wanted,
+        Stands(strand, [is_begun, is_running, has_room]) => {
+            strands.is_begun(*strand) == *is_begun
+                && strands.is_running(*strand) == *is_running
+                && strands.has_room() == *has_room
+        }
+        Relates(a, b, wanted) => compare(strands, *a, *b) == *wanted,
         SpawnsLong => spawns_long(strands),
         Fills => fills(strands),
     }
-}
-
-/// Takes the steps with new strands, one after another.
-fn check(rt: &impl Abort, alloc: Global, steps: &[Step]) -> Result<(), Fail> {
-    let mut strands = Strands::new(alloc)?;
-    for (place, step) in steps.iter().enumerate() {
-        assert!(rt; goes(&mut strands, *step), "step {place}");
-    }
-    Ok(())
 }
 
 const RUNS: &[&[Step]] = &[
@@ -194,10 +178,14 @@ const RUNS: &[&[Step]] = &[
     ],
 ];
 
+/// New strands go each run step by step.
 #[test]
 fn strands_are_told_apart_numbered_and_joined(rt: HostRuntime) -> Result<(), Fail> {
     for steps in RUNS {
-        check(&rt, rt.alloc(), steps)?;
+        let mut strands = Strands::new(rt.alloc())?;
+        for (place, step) in steps.iter().enumerate() {
+            assert!(rt; goes(&mut strands, step), "step {place}");
+        }
     }
     Ok(())
 }

@@ -4,8 +4,7 @@ ghost use Rattle.std.specs.Prelude.{◌<◌};
 
 use crate::checks::equal;
 use order_list::{OrderFault, OrderList};
-use std::alloc::{AllocError, Global};
-use std::process::Abort;
+use std::alloc::Global;
 use std::test::Fail;
 
 /// The item that is placed behind this one, or none without it or without room.
@@ -17,19 +16,11 @@ fn insert_behind(list: &mut OrderList<Global>, after: u32) -> Option<u32> {
     }
 }
 
-/// Whether an item stands before another, if both are there.
-fn is_before(list: &OrderList<Global>, a: u32, b: u32) -> Option<bool> {
-    if (a as usize) < list.len() && (b as usize) < list.len() {
-        Some(list.is_before(a, b))
-    } else {
-        None
-    }
-}
-
 /// Whether the first item of each pair stands before the second one, and not behind it.
 fn stand_before(list: &OrderList<Global>, pairs: &[(u32, u32)]) -> bool {
     for (a, b) in pairs {
-        if is_before(list, *a, *b) != Some(true) || is_before(list, *b, *a) != Some(false) {
+        let are_there = (*a as usize) < list.len() && (*b as usize) < list.len();
+        if !are_there || !list.is_before(*a, *b) || list.is_before(*b, *a) {
             return false;
         }
     }
@@ -37,7 +28,6 @@ fn stand_before(list: &OrderList<Global>, pairs: &[(u32, u32)]) -> bool {
 }
 
 /// Where a spawn places its strands.
-#[derive(Clone, Copy)]
 enum Order {
     /// A child stands before the strand behind its spawn.
     English,
@@ -45,25 +35,21 @@ enum Order {
     Hebrew,
 }
 
-/// Whether a spawn places its child and the strand behind it, and the join where it is the first of its block.
-fn spawns(list: &mut OrderList<Global>, order: Order, spawner: u32, child: u32) -> bool {
-    let next = child.wrapping_add(1);
-    let (before_next, before_join) = match order {
-        Order::English => (child, next),
-        Order::Hebrew => (spawner, child),
-    };
-    list.reserve(3).is_ok()
-        && insert_behind(list, spawner) == Some(child)
-        && insert_behind(list, before_next) == Some(next)
-        && (spawner != 0 || insert_behind(list, before_join) == Some(next.wrapping_add(1)))
-}
-
-/// Whether ten thousand spawns in one block do, each by the strand behind the one before.
-fn spawns_long(list: &mut OrderList<Global>, order: Order) -> bool {
+/// Whether ten thousand spawns in one block, each by the strand behind the one before, place their children and the strands behind them, and
+/// the first one the join.
+fn spawns_long(list: &mut OrderList<Global>, order: &Order) -> bool {
     let mut newest = 0;
     for k in 1..10_001u32 {
         let child = if k == 1 { 1 } else { 2 * k };
-        if !spawns(list, order, newest, child) {
+        let (before_next, before_join) = match order {
+            Order::English => (child, child + 1),
+            Order::Hebrew => (newest, child),
+        };
+        if list.reserve(3).is_err()
+            || insert_behind(list, newest) != Some(child)
+            || insert_behind(list, before_next) != Some(child + 1)
+            || (k == 1 && insert_behind(list, before_join) != Some(child + 2))
+        {
             return false;
         }
         newest = child + 1;
@@ -87,7 +73,6 @@ fn places_many(list: &mut OrderList<Global>) -> bool {
 }
 
 /// What is done with a list, or seen in it.
-#[derive(Clone, Copy)]
 enum Step {
     /// Room is asked for so many items, with this outcome.
     Reserves(u32, Result<(), OrderFault>),
@@ -99,7 +84,7 @@ enum Step {
     HasNoRoom,
     /// The first item of each pair stands before the second one.
     Stand(&'static [(u32, u32)]),
-    /// An item does not stand before itself.
+    /// An item, which is there, does not stand before itself.
     IsNotBefore(u32),
     /// A hundred thousand items are placed behind the first one.
     PlacesMany,
@@ -110,26 +95,17 @@ enum Step {
 use Step::{Has, HasNoRoom, IsNotBefore, Places, PlacesMany, Reserves, SpawnsLong, Stand};
 
 /// Whether a step has its outcome.
-fn goes(list: &mut OrderList<Global>, step: Step) -> bool {
+fn goes(list: &mut OrderList<Global>, step: &Step) -> bool {
     match step {
-        Reserves(count, wanted) => list.reserve(count) == wanted,
-        Places(after, wanted) => insert_behind(list, after) == Some(wanted),
-        Has(items, reserved) => list.len() == items && list.reserved() >= reserved,
+        Reserves(count, wanted) => list.reserve(*count) == *wanted,
+        Places(after, wanted) => insert_behind(list, *after) == Some(*wanted),
+        Has(items, reserved) => list.len() == *items && list.reserved() >= *reserved,
         HasNoRoom => list.reserved() == 0,
         Stand(pairs) => stand_before(list, pairs),
-        IsNotBefore(item) => is_before(list, item, item) == Some(false),
+        IsNotBefore(item) => (*item as usize) < list.len() && !list.is_before(*item, *item),
         PlacesMany => places_many(list),
         SpawnsLong(order) => spawns_long(list, order),
     }
-}
-
-/// Takes the steps with a new list, one after another.
-fn check(rt: &impl Abort, alloc: Global, steps: &[Step]) -> Result<(), AllocError> {
-    let mut list = OrderList::new(alloc)?;
-    for (place, step) in steps.iter().enumerate() {
-        assert!(rt; goes(&mut list, *step), "step {place}");
-    }
-    Ok(())
 }
 
 const RUNS: &[&[Step]] = &[
@@ -191,10 +167,14 @@ const RUNS: &[&[Step]] = &[
     ],
 ];
 
+/// A new list goes each run step by step.
 #[test]
 fn places_items_behind_others(rt: HostRuntime) -> Result<(), Fail> {
     for steps in RUNS {
-        check(&rt, rt.alloc(), steps)?;
+        let mut list = OrderList::new(rt.alloc())?;
+        for (place, step) in steps.iter().enumerate() {
+            assert!(rt; goes(&mut list, step), "step {place}");
+        }
     }
     Ok(())
 }

@@ -6,16 +6,8 @@ use crate::checks::equal;
 use model_reducers::Monoid;
 use reducer_views::{View, Views, combine, fits, identity, of_put, of_update, value};
 use sp_labels::Spawned;
-use std::alloc::{AllocError, Global};
-use std::process::Abort;
+use std::alloc::Global;
 use std::test::Fail;
-
-/// What a get gives after a put and two updates.
-fn gather(monoid: Monoid, numbers: [u64; 3]) -> Option<u64> {
-    let [put, first, second] = numbers;
-    let view = combine(monoid, of_put(monoid, put), of_update(monoid, first));
-    value(combine(monoid, view, of_update(monoid, second)))
-}
 
 /// Two views of a monoid, and their product.
 type Product = (Monoid, View, View, View);
@@ -72,8 +64,10 @@ const FITS: &[(Monoid, View, bool)] = &[
 
 #[test]
 fn views_combine_in_serial_order(rt: HostRuntime) {
-    for (monoid, numbers, wanted) in GATHERED {
-        equal(&rt, monoid, &gather(*monoid, *numbers), &Some(*wanted));
+    for (monoid, [put, first, second], wanted) in GATHERED {
+        let view = combine(*monoid, of_put(*monoid, *put), of_update(*monoid, *first));
+        let view = combine(*monoid, view, of_update(*monoid, *second));
+        equal(&rt, monoid, &value(view), &Some(*wanted));
     }
     for (monoid, left, right, wanted) in PRODUCTS {
         assert!(rt; fits(*monoid, *left) && fits(*monoid, *right));
@@ -102,7 +96,6 @@ fn identities_and_forms(rt: HostRuntime) {
 }
 
 /// What is done with the views of a strand or a join, or seen in them. Reducers come first.
-#[derive(Clone, Copy)]
 enum Act {
     /// The strand spawns a child, in the block with this join, or as the first of its block.
     Spawn(u32, Option<u32>),
@@ -147,65 +140,30 @@ fn spawns(run: &mut Run, strand: u32, child: u32, join: Option<u32>) -> bool
     true
 }
 
-/// Whether the strand, which is there, sees this in a reducer.
-fn sees(run: &Run, strand: u32, reducer: u32, wanted: Option<u64>) -> bool {
-    run.views.is_there(strand)
-        && (reducer as usize) < run.count
-        && run.views.get(strand, reducer) == wanted
-}
-
-/// Whether what takes room can be done.
-fn acts(run: &mut Run, strand: u32, act: Act) -> bool
-    requires room { IsTrue run.old.views.has_room }
-    requires there { strand < length run.old.views.strands }
-{
-    match act {
-        Spawn(child, join) => spawns(run, strand, child, join),
-        Begin => {
-            run.views.joined(strand);
-            true
-        }
-        Add(reducer, number) if (reducer as usize) < run.count => {
-            run.views.update(strand, reducer, number);
-            true
-        }
-        Put(reducer, number) if (reducer as usize) < run.count => {
-            run.views.put(strand, reducer, number);
-            true
-        }
-        _ => false,
-    }
-}
-
 /// Whether a step has its outcome. There is memory for it.
-fn goes(run: &mut Run, step: Step) -> bool {
+fn goes(run: &mut Run, step: &Step) -> bool {
     let (strand, act) = step;
+    let strand = *strand;
     if let Sees(reducer, wanted) = act {
-        return sees(run, strand, reducer, wanted);
+        return run.views.is_there(strand)
+            && (*reducer as usize) < run.count
+            && run.views.get(strand, *reducer) == *wanted;
     }
-    run.views.reserve_event().is_ok()
-        && run.views.has_room()
-        && run.views.is_there(strand)
-        && acts(run, strand, act)
-}
-
-/// Takes the steps with new views of these reducers, one after another.
-fn check(
-    rt: &impl Abort,
-    alloc: Global,
-    monoids: &[Monoid],
-    steps: &[Step],
-) -> Result<(), AllocError> {
-    let views = Views::new(alloc, monoids)?;
-    let mut run = Run {
-        views,
-        count: monoids.len(),
-    };
-    assert!(rt; !run.views.has_room());
-    for (place, step) in steps.iter().enumerate() {
-        assert!(rt; goes(&mut run, *step), "step {place}");
+    if run.views.reserve_event().is_err() || !run.views.has_room() || !run.views.is_there(strand) {
+        return false;
     }
-    Ok(())
+    match act {
+        Spawn(child, join) => return spawns(run, strand, *child, *join),
+        Begin => run.views.joined(strand),
+        Add(reducer, number) if (*reducer as usize) < run.count => {
+            run.views.update(strand, *reducer, *number);
+        }
+        Put(reducer, number) if (*reducer as usize) < run.count => {
+            run.views.put(strand, *reducer, *number);
+        }
+        _ => return false,
+    }
+    true
 }
 
 /// A join combines the update of a child, which comes later, with that of its continuation.
@@ -318,10 +276,18 @@ const RUNS: &[(&[Monoid], &[Step])] = &[
     ),
 ];
 
+/// New views of the reducers go each run step by step.
 #[test]
 fn strands_keep_their_views_and_joins_combine_them(rt: HostRuntime) -> Result<(), Fail> {
     for (monoids, steps) in RUNS {
-        check(&rt, rt.alloc(), monoids, steps)?;
+        let mut run = Run {
+            views: Views::new(rt.alloc(), monoids)?,
+            count: monoids.len(),
+        };
+        assert!(rt; !run.views.has_room());
+        for (place, step) in steps.iter().enumerate() {
+            assert!(rt; goes(&mut run, step), "step {place}");
+        }
     }
     Ok(())
 }

@@ -4,10 +4,14 @@ ghost use Rattle.std.specs.Prelude.{◌≤◌, length};
 ghost use Rattle.model_accesses.specs.Limits.{most_cells};
 ghost use Rattle.model_reducers.specs.Limits.{most_reducers};
 
-use super::openings::gate_of;
+use crate::openings::gate_of;
 use race_gate::Gate;
-use std::alloc::Global;
+use std::alloc::{AllocError, Global};
+use std::process::Abort;
 use text_words::{Act, Monoid, Request};
+
+/// The most entries of a gate that is asked.
+const MOST_ENTRIES: u32 = 1_000_000;
 
 /// An act of a strand, on a line.
 pub type Deed = (u32, u32, Act);
@@ -27,22 +31,18 @@ pub fn answers(gate: &mut Gate<Global>, deeds: &[Deed]) -> bool {
     true
 }
 
-/// A gate of so many cells and of these reducers that was asked for these acts, or nothing where it does not answer one.
+/// A gate of so many cells and of these reducers, which has answered each of these acts.
 pub fn ask_gate(
+    rt: &impl Abort,
     alloc: Global,
     cells: u32,
     monoids: &[Monoid],
     deeds: &[Deed],
-) -> Option<Gate<Global>>
+) -> Result<Gate<Global>, AllocError>
     requires cells { cells ≤ most_cells }
     requires reducers { length monoids.now ≤ most_reducers }
 {
-    let Ok(mut gate) = gate_of(alloc, cells, monoids) else {
-        return None;
-    };
-    if answers(&mut gate, deeds) {
-        Some(gate)
-    } else {
-        None
-    }
+    let mut gate = gate_of(alloc, cells, monoids, MOST_ENTRIES)?;
+    assert!(rt; answers(&mut gate, deeds));
+    Ok(gate)
 }

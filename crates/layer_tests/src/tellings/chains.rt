@@ -1,13 +1,14 @@
 //! A worked history: where the strands of two entries part, and what encloses an entry. tests/explain-chains.t has others.
 
-ghost use Rattle.std.specs.Prelude.{IfSome};
+ghost use Rattle.std.specs.Prelude.{IfOk};
 ghost use Rattle.race_pairs.specs.Lineages.{IsLineage};
 
 use super::asked::{Deed, ask_gate};
 use Act::{Bump, Call, Return, Spawn, Sync};
 use race_gate::Gate;
 use race_pairs::Lineage;
-use std::alloc::Global;
+use std::alloc::{AllocError, Global};
+use std::test::Fail;
 use text_words::Act;
 
 /// The number of a spawn's entry, the strand that came by its child, and the one that came by its next.
@@ -22,28 +23,30 @@ type Enclosed<'a> = (usize, &'a [usize]);
 const ADDS: Act = Bump(0, 1);
 
 /// The lineage of a gate's entries.
-fn lineage_of(alloc: Global, gate: &Gate<Global>) -> Option<Lineage<Global>>
-    ensures { IfSome result (λ lineage. IsLineage lineage gate.now.history) }
+fn lineage_of(alloc: Global, gate: &Gate<Global>) -> Result<Lineage<Global>, AllocError>
+    ensures { IfOk result (λ lineage. IsLineage lineage gate.now.history) }
 {
     let entries = gate.history();
     if entries.len() > 1_000_000 {
-        return None;
+        return Err(AllocError);
     }
-    match Lineage::of(alloc, entries) {
-        Ok(lineage) => Some(lineage),
-        Err(_) => None,
-    }
+    Lineage::of(alloc, entries)
 }
 
 /// Whether the strands of the two entries part there.
-fn part_at(alloc: Global, gate: &Gate<Global>, first: usize, second: usize, wanted: Told) -> bool {
+fn part_at(
+    gate: &Gate<Global>,
+    lineage: &Lineage<Global>,
+    first: usize,
+    second: usize,
+    wanted: Told,
+) -> bool
+    requires { IsLineage lineage.now gate.now.history }
+{
     let entries = gate.history();
     if first == 0 || second == 0 || first > entries.len() || second > entries.len() {
         return false;
     }
-    let Some(lineage) = lineage_of(alloc, gate) else {
-        return false;
-    };
     let strand = entries[first - 1].request.strand;
     let other = entries[second - 1].request.strand;
     let parting = lineage.parting(strand, other);
@@ -53,46 +56,23 @@ fn part_at(alloc: Global, gate: &Gate<Global>, first: usize, second: usize, want
     }
 }
 
-/// Whether the strands of each two entries part where it is said.
-fn they_part(alloc: Global, gate: &Gate<Global>, cases: &[Parted]) -> bool {
-    for (first, second, wanted) in cases {
-        if !part_at(alloc, gate, *first, *second, *wanted) {
-            return false;
-        }
-    }
-    true
-}
-
 /// Whether these entries enclose what the strand of the entry with this number does there.
-fn enclose(alloc: Global, gate: &Gate<Global>, number: usize, wanted: &[usize]) -> bool {
+fn enclose(
+    alloc: Global,
+    gate: &Gate<Global>,
+    lineage: &Lineage<Global>,
+    number: usize,
+    wanted: &[usize],
+) -> bool
+    requires { IsLineage lineage.now gate.now.history }
+{
     let entries = gate.history();
     if number == 0 || number > entries.len() {
         return false;
     }
-    let Some(lineage) = lineage_of(alloc, gate) else {
-        return false;
-    };
     match lineage.chain(alloc, number, entries[number - 1].request.strand) {
         Ok(found) => found.as_slice() == wanted,
         Err(_) => false,
-    }
-}
-
-/// Whether what encloses each entry is what is said.
-fn are_enclosed(alloc: Global, gate: &Gate<Global>, cases: &[Enclosed<'_>]) -> bool {
-    for (number, wanted) in cases {
-        if !enclose(alloc, gate, *number, wanted) {
-            return false;
-        }
-    }
-    true
-}
-
-/// Whether a gate that is asked for these acts answers them, and then the partings are so, and what encloses entries.
-fn are_told(alloc: Global, deeds: &[Deed], parted: &[Parted], enclosed: &[Enclosed<'_>]) -> bool {
-    match ask_gate(alloc, 1, &[], deeds) {
-        Some(gate) => they_part(alloc, &gate, parted) && are_enclosed(alloc, &gate, enclosed),
-        None => false,
     }
 }
 
@@ -145,6 +125,20 @@ const ENCLOSED: &[Enclosed<'static>] = &[
 ];
 
 #[test]
-fn where_strands_part_and_what_encloses_them(rt: HostRuntime) {
-    assert!(rt; are_told(rt.alloc(), DEEDS, PARTED, ENCLOSED));
+fn where_strands_part_and_what_encloses_them(rt: HostRuntime) -> Result<(), Fail> {
+    let gate = ask_gate(&rt, rt.alloc(), 1, &[], DEEDS)?;
+    let lineage = lineage_of(rt.alloc(), &gate)?;
+    for (first, second, wanted) in PARTED {
+        assert!(rt;
+            part_at(&gate, &lineage, *first, *second, *wanted),
+            "{first} and {second}"
+        );
+    }
+    for (number, wanted) in ENCLOSED {
+        assert!(rt;
+            enclose(rt.alloc(), &gate, &lineage, *number, wanted),
+            "{number}"
+        );
+    }
+    Ok(())
 }

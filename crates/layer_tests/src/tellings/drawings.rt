@@ -3,10 +3,10 @@
 use super::asked::{Deed, ask_gate};
 use super::texts::is_text;
 use dag_drawing::{Form, Names, draw, write_drawing};
-use race_gate::{Entry, Gate};
+use race_gate::Gate;
 use std::alloc::{AllocError, Global};
-use std::process::Abort;
-use text_words::{Act, Monoid, Monoids, Name, Reducer, Request, Shape};
+use std::test::Fail;
+use text_words::{Act, Monoid, Name, Reducer};
 use trace_notes::Notes;
 
 /// The text of the drawing of the gate's history, with these reducers.
@@ -27,31 +27,6 @@ fn draw_history(
     }
 }
 
-/// What is drawn of the gate's history, with a sum `h`, is this.
-fn is_drawn(
-    rt: &impl Abort,
-    alloc: Global,
-    gate: &Gate<Global>,
-    wanted: &str,
-) -> Result<(), AllocError> {
-    let reducers = [Reducer {
-        name: Name::new("h"),
-        monoid: Monoid::Sum,
-        line: 1,
-    }];
-    let text = draw_history(alloc, gate, &reducers)?;
-    is_text(rt, text.as_slice(), wanted);
-    Ok(())
-}
-
-/// The same of a gate that is asked for these acts. Whether it answers them, and there was memory.
-fn draws(rt: &impl Abort, alloc: Global, deeds: &[Deed], wanted: &str) -> bool {
-    match ask_gate(alloc, 0, &[Monoid::Sum], deeds) {
-        Some(gate) => is_drawn(rt, alloc, &gate, wanted).is_ok(),
-        None => false,
-    }
-}
-
 const DEEDS: &[Deed] = &[
     (0, 1, Act::Spawn),
     (1, 1, Act::Put(0, 5)),
@@ -68,6 +43,14 @@ const DRAWN: &str =
 
 /// A put before a child spawns, and a get behind the spawn: the get has other peers.
 #[test]
-fn a_view_read_race(rt: HostRuntime) {
-    assert!(rt; draws(&rt, rt.alloc(), DEEDS, DRAWN));
+fn a_view_read_race(rt: HostRuntime) -> Result<(), Fail> {
+    let gate = ask_gate(&rt, rt.alloc(), 0, &[Monoid::Sum], DEEDS)?;
+    let reducers = [Reducer {
+        name: Name::new("h"),
+        monoid: Monoid::Sum,
+        line: 1,
+    }];
+    let text = draw_history(rt.alloc(), &gate, &reducers)?;
+    is_text(&rt, text.as_slice(), DRAWN);
+    Ok(())
 }

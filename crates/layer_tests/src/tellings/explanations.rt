@@ -9,6 +9,7 @@ use race_gate::Gate;
 use race_pairs::Digest;
 use std::alloc::{AllocError, Global};
 use std::process::Abort;
+use std::test::Fail;
 use text_words::Act;
 
 /// What is told of the gate's history as a run of the program of this text is this.
@@ -54,14 +55,6 @@ fn is_explained(
     is_told(rt, alloc, text, program, &gate, wanted)
 }
 
-/// The same of the program of this text. Whether it is one, and there was memory.
-fn explains(rt: &impl Abort, alloc: Global, text: &str, deeds: &[Deed], wanted: &str) -> bool {
-    match Program::parse(alloc, text.as_bytes()) {
-        Ok(program) => is_explained(rt, alloc, text, &program, deeds, wanted).is_ok(),
-        Err(_) => false,
-    }
-}
-
 /// A program's text, what its strands did, and what is told of it.
 type Case<'a> = (&'a str, &'a [Deed], &'a str);
 
@@ -88,8 +81,10 @@ const CASES: &[Case<'static>] = &[
 ];
 
 #[test]
-fn runs_are_explained(rt: HostRuntime) {
+fn runs_are_explained(rt: HostRuntime) -> Result<(), Fail> {
     for (text, deeds, wanted) in CASES {
-        assert!(rt; explains(&rt, rt.alloc(), text, deeds, wanted), "{wanted}");
+        let program = Program::parse(rt.alloc(), text.as_bytes())?;
+        is_explained(&rt, rt.alloc(), text, &program, deeds, wanted)?;
     }
+    Ok(())
 }

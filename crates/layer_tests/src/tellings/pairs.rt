@@ -1,15 +1,17 @@
 //! Worked histories: which entries raced, and which spawn is outstanding. tests/explain-pairs.t has others.
 
-ghost use Rattle.std.specs.Prelude.{List, IfSome};
+ghost use Rattle.std.specs.Prelude.{List, IfOk};
 ghost use Rattle.model_histories.specs.declared.answer.Entry.{Entry};
 ghost use Rattle.race_pairs.specs.Digests.{IsDigest};
 
 use super::asked::{Deed, ask_gate};
+use crate::checks::equal;
 use Act::{Get, Put, Read, Spawn, Write};
 use model_accesses::Kind;
 use race_gate::Gate;
 use race_pairs::{Digest, Encounter, Lines, Link, PAIRS, Pair, Race, Reason, line_in};
-use std::alloc::Global;
+use std::alloc::{AllocError, Global};
+use std::test::Fail;
 use text_words::{Act, Monoid};
 
 const WRITES: Reason = Reason::Race {
@@ -36,14 +38,14 @@ macro_rules! pair {
 }
 
 /// The digest of the gate's history.
-fn digest_of(alloc: Global, gate: &Gate<Global>) -> Option<Digest>
-    ensures { IfSome result (λ digest. (entries : List Entry) × IsDigest entries digest) }
+fn digest_of(alloc: Global, gate: &Gate<Global>) -> Result<Digest, AllocError>
+    ensures { IfOk result (λ digest. (entries : List Entry) × IsDigest entries digest) }
 {
     let entries = gate.history();
     if entries.len() > 1_000_000 {
-        return None;
+        return Err(AllocError);
     }
-    Digest::of(alloc, entries, PAIRS).ok()
+    Digest::of(alloc, entries, PAIRS)
 }
 
 /// Whether the races of a digest are of these pairs.
@@ -59,60 +61,31 @@ fn has_pairs(races: &[Race], wanted: &[Pair]) -> bool {
     true
 }
 
-/// Where two strands part: the number of the spawn's entry, the strand that came by its child, and the one that came by its next.
-type Parted = (usize, u32, u32);
-
 /// A spawn that is outstanding at one of two accesses: the number of its entry, the spawner, the other strand that it made, and which of
 /// the two strands that one is parallel to and which not.
 type Open = (usize, u32, u32, u32, u32);
 
-/// What is told of how the strands of a pair came about.
-#[derive(Clone, Copy)]
-struct Known<'a> {
-    chain: &'a [Link],
-    witness_chain: &'a [Link],
-    parted: Option<Parted>,
-    onward: Option<usize>,
-    open: Option<Open>,
-}
-
-fn parting_of(met: &Encounter) -> Option<Parted> {
-    match met.parting {
-        Some(found) => Some((found.entry, found.by_child, found.by_next)),
-        None => None,
-    }
-}
-
-fn open(met: &Encounter) -> Option<Open> {
-    match met.outstanding {
-        Some(found) => Some((
-            found.entry,
-            found.spawner,
-            found.peer,
-            found.parallel,
-            found.ordered,
-        )),
-        None => None,
-    }
-}
-
-/// Whether this is told of how the strands came about.
-fn is_known(met: &Encounter, known: &Known<'_>) -> bool {
-    met.chain.as_slice() == known.chain
-        && met.witness_chain.as_slice() == known.witness_chain
-        && parting_of(met) == known.parted
-        && met.onward == known.onward
-        && open(met) == known.open
+/// Whether the two strands do not part, nothing encloses them, and this spawn is outstanding.
+fn is_open(met: &Encounter, open: &Open) -> bool {
+    let Some(found) = met.outstanding else {
+        return false;
+    };
+    met.parting.is_none()
+        && met.onward.is_none()
+        && met.chain.is_empty()
+        && met.witness_chain.is_empty()
+        && found.entry == open.0
+        && found.spawner == open.1
+        && (found.peer, found.parallel, found.ordered) == (open.2, open.3, open.4)
 }
 
 /// What is told of a pair.
-#[derive(Clone, Copy)]
 enum Told<'a> {
     Nothing,
     /// The cells on which it raced.
     Places(&'a [u32]),
-    /// How its strands came about.
-    Met(Known<'a>),
+    /// The spawn that is outstanding at one of its strands, which do not part and which nothing encloses.
+    Outstanding(Open),
 }
 
 /// Whether this is told of the last race of a digest.
@@ -125,8 +98,8 @@ fn is_told(alloc: Global, digest: &Digest, told: &Told<'_>) -> bool
     match told {
         Told::Nothing => true,
         Told::Places(cells) => race.places.as_slice() == *cells,
-        Told::Met(known) => match Encounter::new(alloc, digest, race) {
-            Ok(met) => is_known(&met, known),
+        Told::Outstanding(open) => match Encounter::new(alloc, digest, race) {
+            Ok(met) => is_open(&met, open),
             Err(_) => false,
         },
     }
@@ -152,23 +125,6 @@ struct Case {
     pairs: &'static [Pair],
     /// What is told of the last pair.
     told: Told<'static>,
-}
-
-/// Whether this is found in the history of a gate that is asked for these acts.
-fn is_found(alloc: Global, case: &Case) -> bool {
-    let Some(gate) = ask_gate(alloc, 2, &[Monoid::Sum], case.deeds) else {
-        return false;
-    };
-    match digest_of(alloc, &gate) {
-        Some(digest) => {
-            has_lines(&digest, case.lines)
-                && digest.refusals == case.refusals
-                && digest.pair_count() == case.pairs.len()
-                && has_pairs(digest.races(), case.pairs)
-                && is_told(alloc, &digest, &case.told)
-        }
-        None => false,
-    }
 }
 
 const READ_BEHIND_WRITE: Reason = Reason::Race {
@@ -234,19 +190,21 @@ const CASES: &[Case] = &[
             pair!(Reason::Unset, (1, 0), None, (1, 0), 1),
             pair!(Reason::ViewRead, (4, 2), None, (4, 2), 1),
         ],
-        told: Told::Met(Known {
-            chain: &[],
-            witness_chain: &[],
-            parted: None,
-            onward: None,
-            open: Some((3, 0, 1, 2, 0)),
-        }),
+        told: Told::Outstanding((3, 0, 1, 2, 0)),
     },
 ];
 
+/// What is found in the history of a gate that is asked for the acts of each case.
 #[test]
-fn lines_that_raced(rt: HostRuntime) {
+fn lines_that_raced(rt: HostRuntime) -> Result<(), Fail> {
     for (place, case) in CASES.iter().enumerate() {
-        assert!(rt; is_found(rt.alloc(), case), "case {place}");
+        let gate = ask_gate(&rt, rt.alloc(), 2, &[Monoid::Sum], case.deeds)?;
+        let digest = digest_of(rt.alloc(), &gate)?;
+        let found = (digest.refusals, digest.pair_count());
+        equal(&rt, &place, &found, &(case.refusals, case.pairs.len()));
+        assert!(rt; has_lines(&digest, case.lines), "case {place}");
+        assert!(rt; has_pairs(digest.races(), case.pairs), "case {place}");
+        assert!(rt; is_told(rt.alloc(), &digest, &case.told), "case {place}");
     }
+    Ok(())
 }

@@ -2,21 +2,11 @@
 
 use super::texts::is_text;
 use source_quotes::{Meant, fault_message};
-use std::alloc::{AllocError, Global};
-use std::process::Abort;
+use std::test::Fail;
 use text_words::Cause;
 
 /// A text with a fault in it, its line and cause, and what is told of it.
 type Case<'a> = (&'a str, u32, Cause, &'a str);
-
-/// What is told of the fault on paper is this.
-fn is_told(rt: &impl Abort, alloc: Global, case: &Case<'_>) -> Result<(), AllocError> {
-    let (text, line, why, wanted) = case;
-    let bytes = text.as_bytes();
-    let told = fault_message(alloc, false, "p.cilk", bytes, *line, *why, Meant::Program)?;
-    is_text(rt, told.as_slice(), wanted);
-    Ok(())
-}
 
 const FAULTS: &[Case<'static>] = &[
     // A trace in place of a program.
@@ -48,9 +38,21 @@ const FAULTS: &[Case<'static>] = &[
     ),
 ];
 
+/// What is told of each fault on paper.
 #[test]
-fn faults_are_told(rt: HostRuntime) {
-    for case in FAULTS {
-        assert!(rt; is_told(&rt, rt.alloc(), case).is_ok());
+fn faults_are_told(rt: HostRuntime) -> Result<(), Fail> {
+    for (text, line, why, wanted) in FAULTS {
+        let bytes = text.as_bytes();
+        let told = fault_message(
+            rt.alloc(),
+            false,
+            "p.cilk",
+            bytes,
+            *line,
+            *why,
+            Meant::Program,
+        )?;
+        is_text(&rt, told.as_slice(), wanted);
     }
+    Ok(())
 }

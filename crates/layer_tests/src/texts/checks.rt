@@ -4,10 +4,9 @@ ghost use Rattle.std.specs.Prelude.{◌≡◌, ◌<◌, IsTrue};
 ghost use Rattle.text_words.specs.Declarations.{cells_of};
 ghost use Rattle.trace_text.specs.Shapes.{is_numbered};
 
-use program_text::Program;
 use std::alloc::Global;
 use text_words::{Cause, Mem, Monoid, Shape, TextFault};
-use trace_text::{Trace, cell_name};
+use trace_text::cell_name;
 
 /// What a text gives, or its fault: the line, and why.
 pub type Given<T> = Result<T, (u32, Cause)>;
@@ -18,25 +17,6 @@ pub fn reading_of<T: Drop>(found: Result<T, TextFault>) -> Option<Given<T>> {
         Ok(given) => Some(Ok(given)),
         Err(TextFault::At { line, why }) => Some(Err((line, why))),
         Err(TextFault::Memory) => None,
-    }
-}
-
-/// What a text is read as.
-#[derive(Clone, Copy)]
-pub enum Form {
-    Trace,
-    Program,
-}
-
-/// Whether a text means a trace or a program, and its fault where it does not.
-pub fn read(alloc: Global, form: Form, text: &[u8]) -> Option<Given<()>> {
-    let fault = match form {
-        Form::Trace => Trace::parse(alloc, text).err(),
-        Form::Program => Program::parse(alloc, text).err(),
-    };
-    match fault {
-        Some(fault) => reading_of(Err(fault)),
-        None => Some(Ok(())),
     }
 }
 

@@ -2,6 +2,7 @@
 
 use packed_trace::TraceLines;
 use std::alloc::Global;
+use std::test::Fail;
 use text_words::{Act, Request, TraceLine};
 
 /// Whether these are the lines, and no others.
@@ -16,18 +17,6 @@ pub fn are_lines(lines: &TraceLines<Global>, wanted: &[TraceLine]) -> bool {
         }
     }
     given.next().is_none()
-}
-
-/// Whether what is pushed comes back, and nothing else.
-fn come_back(alloc: Global, lines: &[TraceLine]) -> bool {
-    let mut kept = TraceLines::new(alloc);
-    let was_empty = kept.is_empty();
-    for line in lines {
-        if kept.push(*line).is_err() {
-            return false;
-        }
-    }
-    was_empty && !kept.is_empty() && are_lines(&kept, lines)
 }
 
 /// One behind another, of each kind, and with the greatest numbers that the short form has.
@@ -62,8 +51,16 @@ const LONG: &[TraceLine] = &[
     line!(1, 1, Act::Sync, 1, false),
 ];
 
+/// What is pushed comes back, and nothing else.
 #[test]
-fn lines(rt: HostRuntime) {
-    assert!(rt; come_back(rt.alloc(), SHORT));
-    assert!(rt; come_back(rt.alloc(), LONG));
+fn lines(rt: HostRuntime) -> Result<(), Fail> {
+    for lines in [SHORT, LONG] {
+        let mut kept = TraceLines::new(rt.alloc());
+        assert!(rt; kept.is_empty());
+        for line in lines {
+            kept.push(*line)?;
+        }
+        assert!(rt; !kept.is_empty() && are_lines(&kept, lines));
+    }
+    Ok(())
 }

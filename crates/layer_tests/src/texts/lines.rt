@@ -4,6 +4,7 @@ ghost use Rattle.std.specs.Prelude.{◌≤◌, length};
 ghost use Rattle.program_lines.specs.Scopes.{max_registers};
 
 use super::registers::at;
+use crate::checks::equal;
 use program_lines::{
     Expression, FunctionNames, Item, NameScope, Operand, Statement, meaning_or_fault, one_meaning,
     plain_meaning, put_statement, read_line, room_for_registers,
@@ -24,32 +25,9 @@ fn item_of<'a>(scope: &NameScope<'_, '_, Global>, line: &'a [u8]) -> Result<Item
     }
 }
 
-/// Whether the line says what is shown so.
-fn says(alloc: Global, scope: &NameScope<'_, '_, Global>, line: &[u8], wanted: &str) -> bool {
-    match format!(in alloc; "{:?}", item_of(scope, line)) {
-        Ok(shown) => shown.as_str() == wanted,
-        Err(_) => false,
-    }
-}
-
-/// The lines say in this scope what is shown beside them.
-fn check(rt: &impl Abort, alloc: Global, scope: &NameScope<'_, '_, Global>, cases: &[Line]) {
-    for (line, wanted) in cases {
-        assert!(rt; says(alloc, scope, line, wanted), "{wanted}");
-    }
-}
-
-/// The functions `main` and `fib`.
-fn functions(alloc: Global) -> Result<FunctionNames<'static, Global>, AllocError> {
-    let mut functions = FunctionNames::new(alloc);
-    functions.add("main")?;
-    functions.add("fib")?;
-    Ok(functions)
-}
-
-/// So do the lines of a text of that version that declares nothing, where these functions are named, so many have begun, and there are these
-/// registers.
-fn check_beside(
+/// The lines of a text of that version that declares nothing say what is shown beside them, where these functions are named, so many have
+/// begun, and there are these registers.
+fn check(
     rt: &impl Abort,
     alloc: Global,
     version: Version,
@@ -57,12 +35,16 @@ fn check_beside(
     begun: u32,
     registers: &[Name],
     cases: &[Line],
-)
+) -> Result<(), AllocError>
     requires { length registers.now ≤ max_registers }
 {
     let names = Names::new(alloc, version);
     let scope = NameScope::new(&names, functions, begun, registers);
-    check(rt, alloc, &scope, cases);
+    for (line, wanted) in cases {
+        let shown = format!(in alloc; "{:?}", item_of(&scope, line))?;
+        equal(rt, line, &shown.as_str(), wanted);
+    }
+    Ok(())
 }
 
 /// Statements of the first version.
@@ -129,17 +111,19 @@ const KINDS: &[Line] = &[
     (b"end", "Ok(Ends)"),
 ];
 
-/// What the lines say where `main` has begun, and the registers are `n` and `t`, or where nothing is named.
+/// What the lines say where `main` and `fib` are named, `main` has begun, and the registers are `n` and `t`, or where nothing is named.
 #[test]
 fn lines(rt: HostRuntime) -> Result<(), Fail> {
-    let functions = functions(rt.alloc())?;
+    let mut functions = FunctionNames::new(rt.alloc());
+    functions.add("main")?;
+    functions.add("fib")?;
     let registers = [Name::new("n"), Name::new("t")];
     let (one, two) = (Version::One, Version::Two);
-    check_beside(&rt, rt.alloc(), one, &functions, 1, &registers, FIRST);
-    check_beside(&rt, rt.alloc(), two, &functions, 1, &registers, SECOND);
-    check_beside(&rt, rt.alloc(), one, &functions, 1, &registers, CAUSES);
+    check(&rt, rt.alloc(), one, &functions, 1, &registers, FIRST)?;
+    check(&rt, rt.alloc(), two, &functions, 1, &registers, SECOND)?;
+    check(&rt, rt.alloc(), one, &functions, 1, &registers, CAUSES)?;
     let none = FunctionNames::new(rt.alloc());
-    check_beside(&rt, rt.alloc(), one, &none, 0, &[], KINDS);
+    check(&rt, rt.alloc(), one, &none, 0, &[], KINDS)?;
     one_meaning();
     meaning_or_fault();
     room_for_registers();

@@ -1,12 +1,19 @@
 //! The limits of traces and programs: texts that have much of one thing.
 
-use super::checks::{Form, Given, read};
+use super::checks::{Given, reading_of};
 use crate::checks::equal;
-use std::alloc::Global;
+use program_text::Program;
+use std::alloc::{AllocError, Global};
 use text_words::Cause;
+use trace_text::Trace;
+
+/// What a text is read as.
+enum Form {
+    Trace,
+    Program,
+}
 
 /// A text with much of one thing.
-#[derive(Clone, Copy)]
 struct Much {
     /// What it is read as.
     form: Form,
@@ -20,45 +27,33 @@ struct Much {
     tail: &'static str,
 }
 
-/// Appends a line as often as that. Whether there is memory for it.
-fn append(text: &mut String, line: &str, count: u32) -> bool {
-    for _ in 0..count {
-        if text.push_str(line).is_err() {
-            return false;
-        }
-    }
-    true
-}
-
-/// Appends as many lines, each with its number between two parts. Whether there is memory for it.
-fn append_numbered(text: &mut String, start: &str, end: &str, count: u32) -> bool {
-    for number in 0..count {
-        if write!(text, "{start}{number}{end}").is_err() {
-            return false;
-        }
-    }
-    true
-}
-
-/// Appends the text with so much. Whether there is memory for it.
-fn append_much(text: &mut String, much: &Much, count: u32) -> bool {
+/// Appends the text with so much.
+fn append_much(text: &mut String, much: &Much, count: u32) -> Result<(), AllocError> {
     let (line, end) = much.line;
-    append(text, much.head, 1)
-        && match end {
-            Some(end) => append_numbered(text, line, end, count),
-            None => append(text, line, count),
+    text.push_str(much.head)?;
+    for number in 0..count {
+        text.push_str(line)?;
+        if let Some(end) = end {
+            write!(text, "{number}{end}")?;
         }
-        && append(text, much.closing, count)
-        && append(text, much.tail, 1)
+    }
+    for _ in 0..count {
+        text.push_str(much.closing)?;
+    }
+    text.push_str(much.tail)
 }
 
-/// What so much is read as, or its fault.
-fn found(alloc: Global, much: &Much, count: u32) -> Option<Given<()>> {
+/// Whether so much means a trace or a program, and its fault where it does not. None where memory was refused.
+fn read_much(alloc: Global, much: &Much, count: u32) -> Option<Given<()>> {
     let mut text = String::new(alloc);
-    if append_much(&mut text, much, count) {
-        read(alloc, much.form, text.as_bytes())
-    } else {
-        None
+    append_much(&mut text, much, count).ok()?;
+    let fault = match much.form {
+        Form::Trace => Trace::parse(alloc, text.as_bytes()).err(),
+        Form::Program => Program::parse(alloc, text.as_bytes()).err(),
+    };
+    match fault {
+        Some(fault) => reading_of(Err(fault)),
+        None => Some(Ok(())),
     }
 }
 
@@ -166,8 +161,8 @@ const LIMITS: &[Limit] = &[
 #[test]
 fn limits(rt: HostRuntime) {
     for (much, most, line) in LIMITS {
-        let whole = found(rt.alloc(), much, *most);
-        let more = found(rt.alloc(), much, most.wrapping_add(1));
+        let whole = read_much(rt.alloc(), much, *most);
+        let more = read_much(rt.alloc(), much, most.wrapping_add(1));
         let wanted = (Some(Ok(())), Some(Err((*line, Cause::TooMany))));
         equal(&rt, &(much.head, *most), &(whole, more), &wanted);
     }

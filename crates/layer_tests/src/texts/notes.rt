@@ -1,8 +1,8 @@
 //! Notes of a trace.
 
 use crate::checks::equal;
-use std::alloc::{AllocError, Global};
-use std::process::Abort;
+use std::alloc::Global;
+use std::test::Fail;
 use trace_notes::{Notes, Place, split_place};
 
 /// A place taken apart: location, function, code.
@@ -61,13 +61,6 @@ const FIRST: &[u8] = b"cilk 1\n# a trace\n#run sort 100\n#at 7 a.c:1, main | x =
 const SECOND: &[u8] =
     b"#at 7 z.c:1\n#at 16 z.c:2\n#at 17 z\xc3\xbc.c:3\n#run the second\n#of y[*] all";
 
-fn read(alloc: Global) -> Result<Notes<Global>, AllocError> {
-    let mut notes = Notes::new(alloc);
-    notes.read(FIRST)?;
-    notes.read(SECOND)?;
-    Ok(notes)
-}
-
 const MARKS: &[(u32, Option<Parts>)] = &[
     (7, Some(("a.c:1", Some("main"), Some("x = 1;")))),
     (8, None),
@@ -96,20 +89,6 @@ const CELLS: &[(&str, Option<&str>)] = &[
 
 const RUNS: &[&str] = &["sort 100", "the second"];
 
-/// These are the places of marks, the texts of cells, and the runs.
-fn check(rt: &impl Abort, notes: &Notes<Global>) {
-    for (mark, wanted) in MARKS {
-        equal(rt, mark, &parts(notes.place_of(*mark)), wanted);
-    }
-    for (cell, wanted) in CELLS {
-        equal(rt, cell, &notes.text_of(cell), wanted);
-    }
-    equal(rt, &"runs", &notes.runs().len(), &RUNS.len());
-    for (at, found) in notes.runs().iter().enumerate() {
-        equal(rt, &at, &Some(found.as_str()), &RUNS.get(at).copied());
-    }
-}
-
 #[test]
 fn places_are_taken_apart(rt: HostRuntime) {
     for (text, wanted) in PLACES {
@@ -117,9 +96,21 @@ fn places_are_taken_apart(rt: HostRuntime) {
     }
 }
 
+/// The places of marks, the texts of cells, and the runs.
 #[test]
-fn the_first_note_counts(rt: HostRuntime) -> Result<(), AllocError> {
-    let notes = read(rt.alloc())?;
-    check(&rt, &notes);
+fn the_first_note_counts(rt: HostRuntime) -> Result<(), Fail> {
+    let mut notes = Notes::new(rt.alloc());
+    notes.read(FIRST)?;
+    notes.read(SECOND)?;
+    for (mark, wanted) in MARKS {
+        equal(&rt, mark, &parts(notes.place_of(*mark)), wanted);
+    }
+    for (cell, wanted) in CELLS {
+        equal(&rt, cell, &notes.text_of(cell), wanted);
+    }
+    equal(&rt, &"runs", &notes.runs().len(), &RUNS.len());
+    for (at, found) in notes.runs().iter().enumerate() {
+        equal(&rt, &at, &Some(found.as_str()), &RUNS.get(at).copied());
+    }
     Ok(())
 }

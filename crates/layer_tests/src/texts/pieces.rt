@@ -51,19 +51,6 @@ const PIECES: &[Piece] = &[
     (b"read 0\nmem y\n", 0, b"", Err((5, Cause::BadWord))),
 ];
 
-/// The plain lines of the requests at the head of a piece behind a head of two requests, as they are printed, and how many bytes stand
-/// behind them. None where memory was refused.
-fn plain_lines(alloc: Global, piece: &[u8]) -> Option<(Vec<u8>, usize)> {
-    let Ok(Some((mut begun, _))) = BegunTrace::begin(alloc, b"cilk 1\nmem x\nspawn 0\nsync 0\n")
-    else {
-        return None;
-    };
-    let count = begun.request_count();
-    let rest = begun.take_plain(piece).len();
-    let lines = begun.into_trace().print_requests(alloc, count).ok()?;
-    Some((lines, rest))
-}
-
 /// A piece, and the plain lines at its head.
 type PlainPiece = (&'static [u8], &'static [u8]);
 
@@ -96,13 +83,19 @@ fn heads_and_pieces(rt: HostRuntime) {
     }
 }
 
-/// Whether these are the plain lines at the head of the piece.
+/// Whether these are the plain lines at the head of the piece, behind a head of two requests, as they are printed.
 fn are_plain(alloc: Global, piece: &[u8], wanted: &[u8]) -> bool {
-    match plain_lines(alloc, piece) {
-        Some((lines, rest)) => {
+    let Ok(Some((mut begun, _))) = BegunTrace::begin(alloc, b"cilk 1\nmem x\nspawn 0\nsync 0\n")
+    else {
+        return false;
+    };
+    let count = begun.request_count();
+    let rest = begun.take_plain(piece).len();
+    match begun.into_trace().print_requests(alloc, count) {
+        Ok(lines) => {
             lines.as_slice() == wanted && rest.checked_add(wanted.len()) == Some(piece.len())
         }
-        None => false,
+        Err(_) => false,
     }
 }
 

@@ -3,6 +3,7 @@
 use crate::checks::equal;
 use program_text::Program;
 use std::alloc::{AllocError, Global};
+use std::test::Fail;
 
 /// All that is read of a program, as it is shown: no two programs are shown alike.
 fn show_program(alloc: Global, program: &Program<Global>) -> Result<String, AllocError> {
@@ -16,38 +17,6 @@ fn show_program(alloc: Global, program: &Program<Global>) -> Result<String, Allo
         write!(text, "{names:?} {lines:?} {parts:?}")?;
     }
     Ok(text)
-}
-
-/// Whether a program is printed so.
-fn is_printed(alloc: Global, program: &Program<Global>, plain: &[u8]) -> bool {
-    match program.print(alloc) {
-        Ok(printed) => printed.as_slice() == plain,
-        Err(_) => false,
-    }
-}
-
-/// Whether two programs are one.
-fn are_one(alloc: Global, program: &Program<Global>, other: &Program<Global>) -> bool {
-    match (show_program(alloc, program), show_program(alloc, other)) {
-        (Ok(found), Ok(wanted)) => found.as_str() == wanted.as_str(),
-        _ => false,
-    }
-}
-
-/// Whether a program is printed so, which means the same program.
-fn means_alike(alloc: Global, program: &Program<Global>, plain: &[u8]) -> bool {
-    match Program::parse(alloc, plain) {
-        Ok(other) => is_printed(alloc, program, plain) && are_one(alloc, program, &other),
-        Err(_) => false,
-    }
-}
-
-/// Whether the program of a text is printed so.
-fn prints(alloc: Global, text: &[u8], plain: &[u8]) -> bool {
-    match Program::parse(alloc, text) {
-        Ok(program) => means_alike(alloc, &program, plain),
-        Err(_) => false,
-    }
 }
 
 /// Programs, and how they are printed.
@@ -66,8 +35,14 @@ const PROGRAMS: &[(&[u8], &[u8])] = &[
 
 /// What is printed means the same program.
 #[test]
-fn prints_each_program(rt: HostRuntime) {
+fn prints_each_program(rt: HostRuntime) -> Result<(), Fail> {
     for (text, plain) in PROGRAMS {
-        equal(&rt, text, &prints(rt.alloc(), text, plain), &true);
+        let program = Program::parse(rt.alloc(), text)?;
+        let printed = program.print(rt.alloc())?;
+        equal(&rt, text, &printed.as_slice(), plain);
+        let found = show_program(rt.alloc(), &program)?;
+        let wanted = show_program(rt.alloc(), &Program::parse(rt.alloc(), plain)?)?;
+        equal(&rt, text, &found.as_str(), &wanted.as_str());
     }
+    Ok(())
 }

@@ -3,7 +3,6 @@
 use super::checks::has_cells;
 use super::kept::are_lines;
 use crate::checks::equal;
-use std::alloc::Global;
 use std::test::Fail;
 use text_words::{Act, Monoid, Request, TraceLine};
 use trace_text::Trace;
@@ -50,36 +49,6 @@ const ASKED: &[Asked] = &[
     ),
 ];
 
-/// Whether a text means these requests.
-fn asks(alloc: Global, text: &[u8], wanted: &[TraceLine]) -> bool {
-    match Trace::parse(alloc, text) {
-        Ok(trace) => are_lines(&trace.lines, wanted),
-        Err(_) => false,
-    }
-}
-
-/// Whether a trace is printed so.
-fn is_printed(alloc: Global, trace: &Trace<Global>, plain: &[u8]) -> bool {
-    match trace.print(alloc) {
-        Ok(printed) => printed.as_slice() == plain,
-        Err(_) => false,
-    }
-}
-
-/// Whether all these texts are printed so.
-fn print_alike(alloc: Global, plain: &[u8], texts: &[&[u8]]) -> bool {
-    for text in texts {
-        let is_plain = match Trace::parse(alloc, text) {
-            Ok(trace) => is_printed(alloc, &trace, plain),
-            Err(_) => false,
-        };
-        if !is_plain {
-            return false;
-        }
-    }
-    true
-}
-
 /// How a trace is printed, which is printed alike, and other texts that mean it.
 type Printed = (&'static [u8], &'static [&'static [u8]]);
 
@@ -112,14 +81,20 @@ const PRINTED: &[Printed] = &[
     ),
 ];
 
+/// Each text means the requests beside it, and is printed as it stands there.
 #[test]
-fn meanings(rt: HostRuntime) {
+fn meanings(rt: HostRuntime) -> Result<(), Fail> {
     for (text, wanted) in ASKED {
-        equal(&rt, text, &asks(rt.alloc(), text, wanted), &true);
+        let trace = Trace::parse(rt.alloc(), text)?;
+        equal(&rt, text, &are_lines(&trace.lines, wanted), &true);
     }
     for (plain, texts) in PRINTED {
-        equal(&rt, plain, &print_alike(rt.alloc(), plain, texts), &true);
+        for text in *texts {
+            let printed = Trace::parse(rt.alloc(), text)?.print(rt.alloc())?;
+            equal(&rt, text, &printed.as_slice(), plain);
+        }
     }
+    Ok(())
 }
 
 #[test]

@@ -1,4 +1,4 @@
 use Rattle.layer_tests.proofs.tellings.chains.enclose.Goals as goal
 
 pub chain-requires : goal.chain-requires
-chain-requires c = (c.args.gate.now.history, c.in-Some.ensures)
+chain-requires c = (c.args.gate.now.history, c.requires)

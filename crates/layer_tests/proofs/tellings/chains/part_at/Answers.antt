@@ -15,7 +15,7 @@ parting-parting-requires c =
     let legal = subst (λ (xs : List Entry). IsLegal shape xs) (sym whole) c.history-entries.ensures.judged.legal in (
       c.args.gate.now.history,
       (
-        c.in-Some.ensures,
+        c.requires,
         subst (λ (xs : List Entry). Begun (control_part xs) (get_or told (c.args.first - 1) no_entry).request.strand) whole
             (told_begun shape told legal (c.args.first - 1) no_entry (omega (arith, c.if-first-eq0.false, c.if-first-entries.false))),
         subst (λ (xs : List Entry). Begun (control_part xs) (get_or told (c.args.second - 1) no_entry).request.strand) whole

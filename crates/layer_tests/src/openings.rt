@@ -1,14 +1,35 @@
-//! Gates of programs that were asked nothing.
+//! Gates that were asked nothing.
 
-ghost use Rattle.std.specs.Prelude.{◌≡◌, ◌≤◌, [], IfOk};
+ghost use Rattle.std.specs.Prelude.{◌≡◌, ◌≤◌, [], length, IfOk};
 ghost use Rattle.program_text.specs.Programs.{contents};
 ghost use Rattle.model_accesses.specs.Limits.{most_cells};
+ghost use Rattle.model_reducers.specs.Limits.{most_reducers};
 ghost use Rattle.model_histories.specs.Shapes.{most_entries};
 ghost use Rattle.race_report.specs.Conditions.{shape_known};
 
 use program_text::Program;
-use race_gate::ShortGate;
+use race_gate::{Gate, ShortGate};
 use std::alloc::{AllocError, Global};
+use text_words::{Monoid, Monoids, Shape};
+
+/// A gate of so many cells and of these reducers.
+pub fn gate_of(
+    alloc: Global,
+    cells: u32,
+    monoids: &[Monoid],
+    limit: u32,
+) -> Result<Gate<Global>, AllocError>
+    requires cells { cells ≤ most_cells }
+    requires reducers { length monoids.now ≤ most_reducers }
+    requires entries { limit ≤ most_entries }
+    ensures { IfOk result (λ gate. gate.shape.cells ≡ cells) }
+{
+    let shape = Shape {
+        cells,
+        monoids: Monoids::new(monoids.to_vec(alloc)?),
+    };
+    Gate::new(alloc, &shape, limit)
+}
 
 /// A gate of the program.
 pub fn gate_for(

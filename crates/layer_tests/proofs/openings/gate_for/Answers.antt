@@ -1,5 +1,5 @@
 use Rattle.std.proofs.lemmas.List.{length-map}
-use Rattle.layer_tests.proofs.programs.openings.gate_for.Goals as goal
+use Rattle.layer_tests.proofs.openings.gate_for.Goals as goal
 
 pub new-requires-clause-cells : goal.new-requires-clause-cells
 new-requires-clause-cells c = rw c.in_ok-shape.ensures.cells c.args.program.now.few_cells
