@@ -14,7 +14,7 @@ mod verdicts;
 mod words;
 
 use crate::devices::Filling;
-use std::alloc::{AllocError, Global};
+use std::alloc::Global;
 use std::io::Read;
 use std::process::Abort;
 use std::sync::Wait;
@@ -207,8 +207,8 @@ enum Wanted<'a> {
     Among(u8, &'a [&'a str]),
     /// It writes nothing, and answers a fault with this status and text.
     Fault(u8, &'a str),
-    /// Its reader fails behind so many reads, which is told, and nothing is written.
-    Unread(u32),
+    /// Its reader fails, which is told, and nothing is written.
+    Unread,
     /// Its reader is interrupted at once, which is told as a failure, and nothing is written.
     Interrupted,
     /// What it reads is too long, which is told after so many reads at least and so many at most, and nothing is written.
@@ -220,27 +220,11 @@ enum Wanted<'a> {
 
 use Wanted::{Among, Fault, Filled, Interrupted, Text, TooLong, Unread};
 
-impl Wanted<'_> {
-    /// The writer for which this is wanted.
-    fn writer(self, alloc: Global) -> Filling {
-        match self {
-            Filled(takes, ..) => takes.writer(alloc),
-            _ => Takes::All.writer(alloc),
-        }
-    }
-}
-
-/// Whether the command has ended with this status.
-fn has_ended(answer: &Result<u8, CliFault>, status: u8) -> bool {
-    match answer {
-        Ok(found) => *found == status,
-        Err(_) => false,
-    }
-}
-
 /// Whether the command has ended with this status, and neither its reader nor its writer has failed.
 fn is_ended(outcome: &Outcome, status: u8) -> bool {
-    has_ended(&outcome.answer, status) && !outcome.read_failed && !outcome.write_failed
+    matches!(outcome.answer, Ok(found) if found == status)
+        && !outcome.read_failed
+        && !outcome.write_failed
 }
 
 /// Whether these bytes are those of one of the texts.
@@ -253,19 +237,16 @@ fn is_one_of(bytes: &[u8], texts: &[&str]) -> bool {
     false
 }
 
-/// Whether the fault has this status and text.
-fn is_fault(alloc: Global, fault: &CliFault, status: u8, wanted: &str) -> bool {
-    match format!(in alloc; "{fault}") {
-        Ok(told) => fault.status() == status && told.as_str() == wanted,
-        Err(_) => false,
-    }
-}
-
 /// Whether the command has written nothing, and answers a fault with this status and text.
 fn has_fault(alloc: Global, outcome: &Outcome, status: u8, wanted: &str) -> bool {
-    match &outcome.answer {
-        Ok(_) => false,
-        Err(fault) => { outcome.output.held.is_empty() && is_fault(alloc, fault, status, wanted) }
+    let Err(fault) = &outcome.answer else {
+        return false;
+    };
+    match format!(in alloc; "{fault}") {
+        Ok(told) => {
+            outcome.output.held.is_empty() && fault.status() == status && told.as_str() == wanted
+        }
+        Err(_) => false,
     }
 }
 
@@ -276,15 +257,6 @@ fn is_unread(outcome: &Outcome) -> bool {
         && outcome.output.held.is_empty()
 }
 
-/// Whether the text was too long, which was told after so many reads, and nothing is written.
-fn is_too_long(outcome: &Outcome, least: u64, most: u64) -> bool {
-    matches!(outcome.answer, Err(CliFault::TooLong))
-        && !outcome.read_failed
-        && outcome.output.held.is_empty()
-        && least <= outcome.reads
-        && outcome.reads <= most
-}
-
 /// Whether the writer, which went along with so many calls, has failed just where they are fewer than the text takes, and holds what they
 /// wrote.
 fn has_filled(outcome: &Outcome, left: u32, calls: u32, text: &str) -> bool {
@@ -292,7 +264,7 @@ fn has_filled(outcome: &Outcome, left: u32, calls: u32, text: &str) -> bool {
     let (front, _) = text.as_bytes().split_at(text.len().min(left as usize));
     matches!(outcome.answer, Err(CliFault::Write)) == is_cut
         && outcome.write_failed == is_cut
-        && has_ended(&outcome.answer, 0) != is_cut
+        && matches!(outcome.answer, Ok(0)) != is_cut
         && outcome.output.held.as_slice() == front
 }
 
@@ -303,9 +275,15 @@ fn is_met(alloc: Global, outcome: &Outcome, wanted: Wanted<'_>) -> bool {
         Text(status, text) => is_ended(outcome, status) && written == text.as_bytes(),
         Among(status, texts) => is_ended(outcome, status) && is_one_of(written, texts),
         Fault(status, text) => has_fault(alloc, outcome, status, text),
-        Unread(_) => is_unread(outcome),
+        Unread => is_unread(outcome),
         Interrupted => is_unread(outcome) && outcome.reads == 1,
-        TooLong(least, most) => is_too_long(outcome, least, most),
+        TooLong(least, most) => {
+            matches!(outcome.answer, Err(CliFault::TooLong))
+                && !outcome.read_failed
+                && written.is_empty()
+                && least <= outcome.reads
+                && outcome.reads <= most
+        }
         Filled(takes, calls, text) => has_filled(outcome, takes.calls(), calls, text),
     }
 }
@@ -325,17 +303,11 @@ fn check<P: Read + Drop, R: Abort + Threads + Wait + Sync>(
     wanted: Wanted<'_>,
 ) {
     let mut input = Watched::new(reader);
-    let mut output = Watched::new(wanted.writer(alloc));
+    let takes = match wanted {
+        Filled(takes, ..) => takes,
+        _ => Takes::All,
+    };
+    let mut output = Watched::new(takes.writer(alloc));
     let answer = answer_command(rt, alloc, command, &mut input, &mut output);
     meets(rt, alloc, &outcome_of(answer, &input, output), wanted);
-}
-
-/// Appends a number between two texts.
-fn push_number(
-    text: &mut String,
-    before: &str,
-    number: u32,
-    behind: &str,
-) -> Result<(), AllocError> {
-    write!(text, "{before}{number}{behind}")
 }

@@ -2,64 +2,41 @@
 
 use std::io::{Error, ErrorKind, Read, Result, Write};
 
-/// Gives a byte at each read, and answers an error at the read behind `left` more.
+/// Gives so many bytes at each read at most, and behind `left` reads answers an error.
 #[derive(Drop)]
 pub struct Breaking<'a> {
     /// What it gives.
     pub text: &'a [u8],
-    /// How many reads give something.
+    /// How many bytes it gives at most.
+    pub most: usize,
+    /// How many reads give something before the error.
     pub left: u32,
+    /// What the error is.
+    pub error: ErrorKind,
+}
+
+impl<'a> Breaking<'a> {
+    /// Gives so many bytes at each read at most.
+    pub fn into_pieces(text: &'a [u8], most: usize) -> Breaking<'a> {
+        Breaking {
+            text,
+            most,
+            left: u32::MAX,
+            error: ErrorKind::Other,
+        }
+    }
 }
 
 impl Read for Breaking<'_> {
     fn read(&mut self, buf: &mut [u8]) -> Result<usize> {
         if self.left == 0 {
-            return Err(Error::from(ErrorKind::Other));
+            return Err(Error::from(self.error));
         }
         self.left -= 1;
-        let (Some((byte, rest)), Some(place)) = (self.text.split_first(), buf.first_mut()) else {
-            return Ok(0);
-        };
-        *place = *byte;
-        self.text = rest;
-        Ok(1)
-    }
-}
-
-/// Gives so many bytes at each read at most.
-#[derive(Drop)]
-pub struct Giving<'a> {
-    /// What it gives.
-    pub text: &'a [u8],
-    /// How many bytes it gives at most.
-    pub most: usize,
-}
-
-impl Read for Giving<'_> {
-    fn read(&mut self, buf: &mut [u8]) -> Result<usize> {
         let most = self.most.min(buf.len());
         let (mut front, rest) = self.text.split_at(self.text.len().min(most));
         self.text = rest;
         front.read(buf)
-    }
-}
-
-/// Answers at the first read that it was interrupted, and then gives its text.
-#[derive(Drop)]
-pub struct Interrupted<'a> {
-    /// What it gives.
-    pub text: &'a [u8],
-    /// Whether it was interrupted.
-    pub was_asked: bool,
-}
-
-impl Read for Interrupted<'_> {
-    fn read(&mut self, buf: &mut [u8]) -> Result<usize> {
-        if self.was_asked {
-            return self.text.read(buf);
-        }
-        self.was_asked = true;
-        Err(Error::from(ErrorKind::Interrupted))
     }
 }
 

@@ -7,6 +7,7 @@ use crate::worked::FIB;
 use std::alloc::Global;
 use std::process::Abort;
 use std::sync::Wait;
+use std::sync::atomic::AtomicU64;
 use std::test::Fail;
 use std::thread::Threads;
 use text_words::{Cause, TextFault};
@@ -49,14 +50,19 @@ fn check_streams(rt: &impl Abort, alloc: Global) -> Result<(), Fail> {
 }
 
 /// A fault of a text at its third line.
-fn third(why: Cause) -> TextFault {
-    TextFault::At { line: 3, why }
+macro_rules! third {
+    ($why:expr) => {
+        TextFault::At {
+            line: 3,
+            why: $why,
+        }
+    };
 }
 
 /// Faults of texts.
 fn check_texts(rt: &impl Abort, alloc: Global) -> Result<(), Fail> {
-    let trace = CliFault::Trace(third(Cause::BadWord));
-    let program = CliFault::Program(third(Cause::BadNesting));
+    let trace = CliFault::Trace(third!(Cause::BadWord));
+    let program = CliFault::Program(third!(Cause::BadNesting));
     let faults = [
         (trace, "trace line 3: BadWord", 2),
         (CliFault::Trace(TextFault::Memory), "trace memory", 3),
@@ -118,7 +124,10 @@ fn check_case<R: Abort + Threads + Wait + Sync>(
     let (prank, text, status) = case;
     let mut program = Watched::new(FIB);
     let mut output = Watched::new(Vec::new(alloc));
-    let door = PrankDoor::new(prank);
+    let door = PrankDoor {
+        prank,
+        asked: AtomicU64::new(0),
+    };
     match run_text(
         rt,
         alloc,
@@ -151,7 +160,10 @@ fn a_run_whose_gate_is_cheated_tells_it_and_writes_nothing(rt: HostRuntime) -> R
 fn a_run_whose_gate_is_turned_round_is_told(rt: HostRuntime) -> Result<(), Fail> {
     let mut program = Watched::new(FIB);
     let mut output = Watched::new(Vec::new(rt.alloc()));
-    let door = PrankDoor::new(Prank::Turns);
+    let door = PrankDoor {
+        prank: Prank::Turns,
+        asked: AtomicU64::new(0),
+    };
     let status = run_text(
         &rt,
         rt.alloc(),

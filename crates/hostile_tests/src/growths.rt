@@ -22,6 +22,20 @@ macro_rules! entry {
     };
 }
 
+/// What a call answers, made once more where it answered that there is no memory, if what it was made on was as before then.
+macro_rules! twice {
+    ($told:ident, $call:literal, $memory:pat, $answer:expr, $is_as_before:expr) => {{
+        let mut answer = $answer;
+        if crate::growths::note($told, $call, matches!(answer, Err($memory))) && $is_as_before {
+            answer = $answer;
+        }
+        answer
+    }};
+    ($told:ident, $call:literal, $memory:pat, $answer:expr) => {
+        twice!($told, $call, $memory, $answer, true)
+    };
+}
+
 mod commands;
 mod gates;
 mod kept;
@@ -32,158 +46,179 @@ mod traces;
 
 use crate::checks::equal;
 use crate::refusing::Refusing;
+use commands::Command;
 use std::alloc::{AllocError, Global};
 use std::process::Abort;
-use text_words::{Monoid, Shape};
 use tool_commands::Form;
 
 /// A heap of which one growth is refused.
 type Heap = Refusing<Global>;
 
-/// The calls over an allocator that can answer that there is no memory.
-#[derive(Clone, Copy)]
-enum Call {
-    List(lists::Call),
-    Strands(strands::Call),
-    Kept(kept::Call),
-    Trace(traces::Call),
-    Gate(gates::Call),
-    Program(programs::Call),
-    Command(commands::Command),
+/// The calls that have answered that there is no memory, and the hints for which there was none.
+type Told = Vec<&'static str>;
+
+/// Notes the call if there was no memory for it. Whether there was none.
+fn note(told: &mut Told, call: &'static str, is_refused: bool) -> bool {
+    is_refused && told.push(call).is_ok()
 }
 
-/// Makes the call where its growth of this number is refused. Whether it answered Memory, or None where what it answered or left is not
-/// as it is to be.
-fn is_refused(alloc: Global, heap: &Heap, number: u64, call: Call) -> Option<bool> {
-    match call {
-        Call::List(call) => lists::is_refused(heap, number, call),
-        Call::Strands(call) => strands::is_refused(heap, number, call),
-        Call::Kept(call) => kept::is_refused(heap, number, call),
-        Call::Trace(call) => traces::is_refused(heap, number, call),
-        Call::Gate(call) => gates::is_refused(alloc, heap, number, call),
-        Call::Program(call) => programs::is_refused(heap, number, call),
-        Call::Command(command) => commands::is_refused(alloc, heap, number, command),
+/// Whether the text was made, and is this one.
+fn is_text(made: &Result<Vec<u8, &Heap>, AllocError>, wanted: &[u8]) -> bool {
+    match made {
+        Ok(text) => text.as_slice() == wanted,
+        Err(AllocError) => false,
     }
 }
 
-/// Whether there was no memory for a text, which is this one where there was.
-fn lacks_text(found: Result<Vec<u8, &Heap>, AllocError>, wanted: &[u8]) -> Option<bool> {
-    match found {
-        Ok(text) => (text.as_slice() == wanted).then_some(false),
-        Err(AllocError) => Some(true),
+/// What is called one after another over a heap.
+enum Calls {
+    List,
+    Strands,
+    Branches,
+    Views,
+    Reads,
+    Shadow,
+    Trace,
+    /// The requests to a gate, one by one.
+    Requests,
+    /// The same in a list, and the verdict lines.
+    Replies,
+    Program,
+    Run,
+    Command(Command),
+}
+
+/// Makes the calls, and notes those for which there was no memory. Whether each answered and left what it should.
+fn make_calls(alloc: Global, heap: &Heap, calls: &Calls, told: &mut Told) -> bool {
+    match calls {
+        Calls::List => lists::call_list(heap, told),
+        Calls::Strands => strands::call_strands(heap, told),
+        Calls::Branches => kept::call_branches(heap, told),
+        Calls::Views => kept::call_views(heap, told),
+        Calls::Reads => kept::call_reads(alloc, heap, told),
+        Calls::Shadow => kept::call_shadow(alloc, heap, told),
+        Calls::Trace => traces::call_trace(heap, told),
+        Calls::Requests => gates::call_gate(alloc, heap, false, told),
+        Calls::Replies => gates::call_gate(alloc, heap, true, told),
+        Calls::Program => programs::call_program(heap, told),
+        Calls::Run => programs::call_run(alloc, heap, told),
+        Calls::Command(command) => commands::call_command(alloc, heap, command, told),
     }
 }
 
-/// Whether there was no memory for a shape, which has so many cells and these reducers where there was.
-fn lacks_shape(
-    found: Result<Shape<&Heap>, AllocError>,
-    cells: u32,
-    monoids: &[Monoid],
-) -> Option<bool> {
-    match found {
-        Ok(shape) => {
-            let is_right = shape.cells == cells && shape.monoids.as_slice() == monoids;
-            is_right.then_some(false)
-        }
-        Err(AllocError) => Some(true),
-    }
-}
+/// Where the growths of calls have no end.
+const ENDLESS: usize = 10_000;
 
-/// Where the growths of a call have no end.
-const ENDLESS: u64 = 10_000;
-
-/// Refuses the call's first growth, its second, and so on until none is refused. How many were, or behind how many something was not as
-/// it is to be. Just a call of which one was refused answers Memory.
-fn growths_of(alloc: Global, call: Call) -> Result<u64, u64> {
+/// Refuses the first growth of the calls, the second, and so on until none is refused. For each that is refused there is no memory for just
+/// one call, and so it is for each call that has a name here.
+fn check(rt: &impl Abort, alloc: Global, calls: &Calls, names: &[&str]) {
+    let mut told = Vec::new(alloc);
     for growths in 0..ENDLESS {
         let heap = Refusing::new(alloc);
-        match is_refused(alloc, &heap, growths.saturating_add(1), call) {
-            Some(true) if heap.has_refused() => {}
-            Some(false) if !heap.has_refused() => return Ok(growths),
-            _ => return Err(growths),
+        heap.refuse(growths as u64 + 1);
+        let is_right = make_calls(alloc, &heap, calls, &mut told);
+        let refused = if heap.has_refused() {
+            growths + 1
+        } else {
+            growths
+        };
+        equal(
+            rt,
+            &(names, growths),
+            &(is_right, told.len()),
+            &(true, refused),
+        );
+        if !heap.has_refused() {
+            break;
         }
     }
-    Err(ENDLESS)
-}
-
-const OF_STRANDS: &[(&str, Call)] = &[
-    ("OrderList::new", Call::List(lists::Call::New)),
-    ("OrderList::reserve", Call::List(lists::Call::Reserve)),
-    ("OrderList::make_room", Call::List(lists::Call::Hint)),
-    ("Strands::new", Call::Strands(strands::Call::New)),
-    (
-        "Strands::reserve_event",
-        Call::Strands(strands::Call::Reserve),
-    ),
-    ("Strands::make_room", Call::Strands(strands::Call::Hint)),
-    ("Strands::spawn", Call::Strands(strands::Call::Spawn)),
-    ("Strands::call", Call::Strands(strands::Call::Function)),
-    ("Branches::new", Call::Kept(kept::Call::NewBranches)),
-    (
-        "Branches::reserve_event",
-        Call::Kept(kept::Call::ReserveBranches),
-    ),
-    ("Views::new", Call::Kept(kept::Call::NewViews)),
-    ("Views::reserve_event", Call::Kept(kept::Call::ReserveViews)),
-    ("ReadPeers::new", Call::Kept(kept::Call::NewReads)),
-    ("Shadow::new", Call::Kept(kept::Call::NewShadow)),
-];
-
-const OF_TRACES: &[(&str, Call)] = &[
-    ("Trace::parse", Call::Trace(traces::Call::Parse)),
-    ("Trace::print", Call::Trace(traces::Call::Print)),
-    ("Trace::shape", Call::Trace(traces::Call::Shape)),
-    ("cell_name", Call::Trace(traces::Call::Name)),
-];
-
-const OF_GATES: &[(&str, Call)] = &[
-    ("Gate::new", Call::Gate(gates::Call::New)),
-    ("Gate::judge", Call::Gate(gates::Call::Judge)),
-    ("judge_all", Call::Gate(gates::Call::JudgeAll)),
-    ("verdict_lines", Call::Gate(gates::Call::Tell)),
-];
-
-const OF_PROGRAMS: &[(&str, Call)] = &[
-    ("Program::parse", Call::Program(programs::Call::Parse)),
-    ("Program::print", Call::Program(programs::Call::Print)),
-    ("Program::shape", Call::Program(programs::Call::Shape)),
-    ("Frame::answer", Call::Program(programs::Call::Answer)),
-    (
-        "Frame::reserve_call",
-        Call::Program(programs::Call::Reserve),
-    ),
-    ("elide", Call::Program(programs::Call::Elide)),
-    ("replay", Call::Program(programs::Call::Replay)),
-];
-
-const OF_COMMANDS: &[(&str, Call)] = &[
-    ("judge_stream", Call::Command(commands::Command::Judge)),
-    ("elide_text", Call::Command(commands::Command::Elide)),
-    ("replay_text", Call::Command(commands::Command::Replay)),
-    (
-        "draw_text",
-        Call::Command(commands::Command::Draw(Form::Dot)),
-    ),
-    (
-        "draw_text of a picture",
-        Call::Command(commands::Command::Draw(Form::Svg)),
-    ),
-];
-
-/// Each of these calls has growths, which have an end.
-fn check_all(rt: &impl Abort, alloc: Global, calls: &[(&str, Call)]) {
-    for (name, call) in calls {
-        let growths = growths_of(alloc, *call);
-        let is_right = matches!(growths, Ok(count) if 0 < count);
-        equal(rt, &(name, growths), &is_right, &true);
+    assert!(rt; told.len() < ENDLESS, "{names:?}");
+    for name in names {
+        assert!(rt; told.contains(name), "{name}");
     }
 }
+
+const COMMANDS: &[(Calls, &str)] = &[
+    (Calls::Command(Command::Judge), "judge_stream"),
+    (Calls::Command(Command::Elide), "elide_text"),
+    (Calls::Command(Command::Replay), "replay_text"),
+    (Calls::Command(Command::Draw(Form::Dot)), "draw_text"),
+    (
+        Calls::Command(Command::Draw(Form::Svg)),
+        "draw_text of a picture",
+    ),
+];
 
 #[test]
 fn calls_whose_growths_are_refused(rt: HostRuntime) {
-    check_all(&rt, rt.alloc(), OF_STRANDS);
-    check_all(&rt, rt.alloc(), OF_TRACES);
-    check_all(&rt, rt.alloc(), OF_GATES);
-    check_all(&rt, rt.alloc(), OF_PROGRAMS);
-    check_all(&rt, rt.alloc(), OF_COMMANDS);
+    let alloc = rt.alloc();
+    check(
+        &rt,
+        alloc,
+        &Calls::List,
+        &[
+            "OrderList::new",
+            "OrderList::reserve",
+            "OrderList::make_room",
+        ],
+    );
+    check(
+        &rt,
+        alloc,
+        &Calls::Strands,
+        &[
+            "Strands::new",
+            "Strands::reserve_event",
+            "Strands::make_room",
+            "Strands::spawn",
+            "Strands::call",
+        ],
+    );
+    check(
+        &rt,
+        alloc,
+        &Calls::Branches,
+        &["Branches::new", "Branches::reserve_event"],
+    );
+    check(
+        &rt,
+        alloc,
+        &Calls::Views,
+        &["Views::new", "Views::reserve_event"],
+    );
+    check(&rt, alloc, &Calls::Reads, &["ReadPeers::new"]);
+    check(&rt, alloc, &Calls::Shadow, &["Shadow::new"]);
+    check(
+        &rt,
+        alloc,
+        &Calls::Trace,
+        &["Trace::parse", "Trace::print", "Trace::shape", "cell_name"],
+    );
+    check(&rt, alloc, &Calls::Requests, &["Gate::new", "Gate::judge"]);
+    check(
+        &rt,
+        alloc,
+        &Calls::Replies,
+        &["Gate::new", "judge_all", "verdict_lines"],
+    );
+    check(
+        &rt,
+        alloc,
+        &Calls::Program,
+        &[
+            "Program::parse",
+            "Program::print",
+            "Program::shape",
+            "elide",
+        ],
+    );
+    check(
+        &rt,
+        alloc,
+        &Calls::Run,
+        &["Frame::answer", "Frame::reserve_call", "replay"],
+    );
+    for (command, name) in COMMANDS {
+        check(&rt, alloc, command, &[*name]);
+    }
 }

@@ -12,7 +12,6 @@ use std::test::Fail;
 use text_words::{Act, Monoids, Request, Shape};
 
 /// A text that begins so, with so many lines of one kind behind that and then this end, and what it means as a program or as a trace.
-#[derive(Clone, Copy)]
 struct Lines {
     first: &'static str,
     line: &'static str,
@@ -22,17 +21,12 @@ struct Lines {
     wanted: Result<usize, (u32, Cause)>,
 }
 
-fn text_of(alloc: Global, lines: Lines) -> Result<String, AllocError> {
+fn check(rt: &impl Abort, alloc: Global, lines: &Lines) -> Result<(), AllocError> {
     let mut text = String::from_str(alloc, lines.first)?;
     for _ in 0..lines.count {
         text.push_str(lines.line)?;
     }
     text.push_str(lines.end)?;
-    Ok(text)
-}
-
-fn check(rt: &impl Abort, alloc: Global, lines: Lines) -> Result<(), AllocError> {
-    let text = text_of(alloc, lines)?;
     let found = if lines.is_program {
         meant_by(alloc, text.as_bytes())
     } else {
@@ -84,7 +78,7 @@ const TEXTS: &[Lines] = &[
 #[test]
 fn requests_and_lines_of_a_text(rt: HostRuntime) -> Result<(), Fail> {
     for lines in TEXTS {
-        check(&rt, rt.alloc(), *lines)?;
+        check(&rt, rt.alloc(), lines)?;
     }
     Ok(())
 }
@@ -95,23 +89,20 @@ const CALL: Request = Request {
     line: 3,
 };
 
-/// The entry so often.
-fn repeat_entry(alloc: Global, entry: Entry, count: u32) -> Result<Vec<Entry>, AllocError> {
+/// What is replayed of a program that calls itself so often.
+fn replay_calls(
+    alloc: Global,
+    program: &Program<Global>,
+    count: u32,
+) -> Result<Result<(), ReplayFault>, AllocError> {
     let mut entries = Vec::new(alloc);
     for _ in 0..count {
-        entries.push(entry)?;
+        entries.push(Entry {
+            request: CALL,
+            answer: Answer::Same,
+        })?;
     }
-    Ok(entries)
-}
-
-/// What is replayed of a program that calls itself so often.
-fn replay_calls(alloc: Global, program: &Program<Global>, count: u32) -> Result<(), ReplayFault> {
-    let entry = Entry {
-        request: CALL,
-        answer: Answer::Same,
-    };
-    let entries = repeat_entry(alloc, entry, count)?;
-    replay(alloc, program, entries.as_slice())
+    Ok(replay(alloc, program, entries.as_slice()))
 }
 
 /// How often a program calls itself, and the fault of the replay.
@@ -120,21 +111,13 @@ const CALLS: &[(u32, ReplayFault)] = &[
     (1_000_001, ReplayFault::Strange(1_000_001)),
 ];
 
-fn check_calls(rt: &impl Abort, alloc: Global, program: &Program<Global>) {
-    for (count, fault) in CALLS {
-        equal(
-            rt,
-            count,
-            &replay_calls(alloc, program, *count),
-            &Err(*fault),
-        );
-    }
-}
-
 #[test]
 fn entries_of_a_replay(rt: HostRuntime) -> Result<(), Fail> {
     let program = Program::parse(rt.alloc(), ENDLESS)?;
-    check_calls(&rt, rt.alloc(), &program);
+    for (count, fault) in CALLS {
+        let found = replay_calls(rt.alloc(), &program, *count)?;
+        equal(&rt, count, &found, &Err(*fault));
+    }
     Ok(())
 }
 

@@ -6,7 +6,7 @@ use crate::receipts::PAIR_REQUESTS;
 use crate::refusing::Refusing;
 use crate::rounds::gate_for;
 use crate::worked::PAIR;
-use locked_replay::{LockedGate, RunFault, Seat, Whole, WorkerLog, gather};
+use locked_replay::{LockedGate, RunFault, Seat, WorkerLog, gather};
 use packed_history::Receipts;
 use program_text::Program;
 use race_gate::GateFault;
@@ -19,23 +19,8 @@ use text_words::Request;
 /// A heap of which one growth is refused.
 pub type Heap = Refusing<Global>;
 
-/// A call of which a growth is refused.
-#[derive(Clone, Copy, Debug)]
-pub enum Call {
-    /// PAIR's requests are asked.
-    Ask,
-    /// PAIR's run is gathered.
-    Gather,
-}
-
 /// What is found of a call: whether a growth was refused, and whether the call answered Memory.
-#[derive(Clone, Copy)]
-pub struct Found {
-    /// Whether a growth was refused.
-    pub was_refused: bool,
-    /// Whether the call answered Memory.
-    pub is_told: bool,
-}
+pub type Found = (bool, bool);
 
 /// Asks on the seat, and keeps the receipt. Whether there was memory; where there was none, nothing was asked.
 fn ask_and_keep<L: Ledger, R: Wait>(
@@ -78,20 +63,6 @@ fn ask_pair<L: Ledger, R: Wait>(
     Some(is_told)
 }
 
-/// Whether there was no memory for what is gathered of PAIR's run, in which the child writes 7 and the spawner's read is refused.
-fn lacks_memory(found: &Result<Whole<&Heap>, RunFault>) -> Option<bool> {
-    match found {
-        Ok(whole) => {
-            let is_right = !whole.clean
-                && whole.entries.len() == 7
-                && whole.memory.as_slice() == [7, 0].as_slice();
-            is_right.then_some(false)
-        }
-        Err(RunFault::Memory) => Some(true),
-        Err(_) => None,
-    }
-}
-
 /// The log of a worker who asks what PAIR asks. Its growth of this number is refused.
 fn ask_refused<'h, L: Ledger, R: Wait>(
     rt: &R,
@@ -105,14 +76,11 @@ fn ask_refused<'h, L: Ledger, R: Wait>(
     let is_told = ask_pair(rt, locked, &mut seat, &mut receipts)?;
     let was_refused = heap.has_refused();
     heap.refuse(0);
-    let found = Found {
-        was_refused,
-        is_told,
-    };
-    Some((WorkerLog { seat, receipts }, found))
+    Some((WorkerLog { seat, receipts }, (was_refused, is_told)))
 }
 
-/// What is found where PAIR's run is gathered of its log. Its growth of this number is refused.
+/// What is found where PAIR's run is gathered of its log, in which the child writes 7 and the spawner's read is refused. Its growth of this
+/// number is refused.
 fn gather_refused<'h, L: Ledger>(
     heap: &'h Heap,
     program: &Program<&'h Heap>,
@@ -128,29 +96,30 @@ fn gather_refused<'h, L: Ledger>(
     let gathered = gather(heap, program, locked, logs);
     let was_refused = heap.has_refused();
     heap.refuse(0);
-    let is_told = lacks_memory(&gathered)?;
-    Some(Found {
-        was_refused,
-        is_told,
-    })
+    match gathered {
+        Ok(whole) => {
+            let is_right = !whole.clean
+                && whole.entries.len() == 7
+                && whole.memory.as_slice() == [7, 0].as_slice();
+            is_right.then_some((was_refused, false))
+        }
+        Err(RunFault::Memory) => Some((was_refused, true)),
+        Err(_) => None,
+    }
 }
 
-/// PAIR's run is asked and gathered. Its growth of this number is refused, while it is asked or while it is gathered.
+/// PAIR's run is asked and gathered. The growth of one number is refused while it is asked, and that of the other while it is gathered.
 fn gathers<L: Ledger, R: Wait>(
     rt: &R,
     heap: &Heap,
-    call: Call,
-    number: u64,
+    asking: u64,
+    gathering: u64,
     blank: Blank,
-) -> Option<Found>
+) -> Option<(Found, Found)>
     requires name { blank.name ≡ L.name }
     requires all { blank.parts ≡ L.parts }
     requires parts { blank.parts ≡ 1 }
 {
-    let (asking, gathering) = match call {
-        Call::Ask => (number, 0),
-        Call::Gather => (0, number),
-    };
     heap.refuse(0);
     let Ok(program) = Program::parse(heap, PAIR) else {
         return None;
@@ -161,15 +130,22 @@ fn gathers<L: Ledger, R: Wait>(
     let (locked, seat) = LockedGate::<L, &Heap>::new(gate, blank, 1);
     let (log, asked) = ask_refused(rt, heap, &locked, seat, asking)?;
     let gathered = gather_refused(heap, &program, locked, log, gathering)?;
-    match call {
-        Call::Ask => (!gathered.is_told).then_some(asked),
-        Call::Gather => (!asked.is_told).then_some(gathered),
-    }
+    Some((asked, gathered))
 }
 
-/// Does so, and once more with all memory.
-pub fn found_of<R: Wait>(rt: &R, heap: &Heap, number: u64, call: Call) -> Option<Found> {
-    let found = gathers::<Brand, R>(rt, heap, call, number, Blank::new(1))?;
-    let again = gathers::<Brand, R>(rt, heap, call, 0, Blank::new(1))?;
-    (!again.is_told).then_some(found)
+/// Does so, and once more with all memory. Of asking and gathering that of which no growth is refused has memory.
+pub fn found_of<R: Wait>(rt: &R, heap: &Heap, number: u64, is_gathering: bool) -> Option<Found> {
+    let (asking, gathering) = if is_gathering {
+        (0, number)
+    } else {
+        (number, 0)
+    };
+    let (asked, gathered) = gathers::<Brand, R>(rt, heap, asking, gathering, Blank::new(1))?;
+    let again = gathers::<Brand, R>(rt, heap, 0, 0, Blank::new(1))?;
+    let (found, other) = if is_gathering {
+        (gathered, asked)
+    } else {
+        (asked, gathered)
+    };
+    (!other.1 && !again.0.1 && !again.1.1).then_some(found)
 }

@@ -15,7 +15,7 @@ use tool_commands::Door;
 /// What a gate does beside its work. A number is that of a request, in the order in which they come.
 #[derive(Clone, Copy, Debug)]
 pub enum Prank {
-    /// It turns up to 1,000 times before each request.
+    /// It turns up to 1,000 times before each request, and lets another thread go on.
     Turns,
     /// It stops the gate before this request.
     Stops(u64),
@@ -30,37 +30,12 @@ pub enum Prank {
 /// A gate that plays a prank.
 #[derive(Drop)]
 pub struct Prankster<'a, L: Ledger> {
-    locked: &'a LockedGate<L>,
-    prank: Prank,
-    asked: AtomicU64,
-}
-
-impl<'a, L: Ledger> Prankster<'a, L> {
-    /// A gate that was not asked yet.
-    pub fn new(locked: &'a LockedGate<L>, prank: Prank) -> Prankster<'a, L> {
-        Prankster {
-            locked,
-            prank,
-            asked: AtomicU64::new(0),
-        }
-    }
-}
-
-/// Turns up to 1,000 times, other times for other numbers, and lets another thread go on.
-fn turn(number: u64) {
-    let turns = number.wrapping_mul(0x9E37_79B9_7F4A_7C15) >> 32;
-    for _ in 0..turns % 1_000 {
-        hint::spin_loop();
-    }
-    thread::yield_now();
-}
-
-/// Whether this is the request at which the prank is played, and the gate is not to be asked it.
-fn starves(prank: Prank, number: u64) -> bool {
-    match prank {
-        Prank::Starves(at) => number == at,
-        _ => false,
-    }
+    /// The gate that it asks.
+    pub locked: &'a LockedGate<L>,
+    /// What it does.
+    pub prank: Prank,
+    /// How many requests have come.
+    pub asked: AtomicU64,
 }
 
 /// What is done before a request, and what the gate is asked then.
@@ -73,7 +48,14 @@ fn prepare_request<L: Ledger, A: Allocator + Clone, R: Wait>(
 ) -> Request {
     let mut asked = request;
     match prank {
-        Prank::Turns => turn(number),
+        Prank::Turns => {
+            // Other times for other numbers.
+            let turns = number.wrapping_mul(0x9E37_79B9_7F4A_7C15) >> 32;
+            for _ in 0..turns % 1_000 {
+                hint::spin_loop();
+            }
+            thread::yield_now();
+        }
         Prank::Stops(at) => {
             if number == at {
                 locked.stop(rt);
@@ -89,17 +71,6 @@ fn prepare_request<L: Ledger, A: Allocator + Clone, R: Wait>(
     asked
 }
 
-/// The receipt that is given in place of one.
-fn give_receipt(prank: Prank, number: u64, receipt: Receipt) -> Receipt {
-    let mut given = receipt;
-    if let Prank::Tears(at) = prank {
-        if number == at {
-            given.number = given.number.wrapping_add(1);
-        }
-    }
-    given
-}
-
 /// Asks a gate so that a prank is played. The count is of the requests before.
 fn ask_with_prank<L: Ledger, A: Allocator + Clone, R: Wait>(
     rt: &R,
@@ -113,12 +84,17 @@ fn ask_with_prank<L: Ledger, A: Allocator + Clone, R: Wait>(
     ensures asked { MatchResult result (λ _. seat.new.asked ≡ seat.old.asked + 1) (λ _. seat.new.asked ≡ seat.old.asked) }
 {
     let number = count.fetch_add(1, Ordering::SeqCst).wrapping_add(1);
-    if starves(prank, number) {
+    if matches!(prank, Prank::Starves(at) if at == number) {
         return Err(GateFault::Memory);
     }
     let asked = prepare_request(rt, locked, prank, number, request);
     match locked.ask(rt, seat, asked) {
-        Ok(receipt) => Ok(give_receipt(prank, number, receipt)),
+        Ok(mut receipt) => {
+            if matches!(prank, Prank::Tears(at) if at == number) {
+                receipt.number = receipt.number.wrapping_add(1);
+            }
+            Ok(receipt)
+        }
         Err(fault) => Err(fault),
     }
 }
@@ -141,18 +117,10 @@ impl<'a, L: Ledger> Ask<L> for Prankster<'a, L> {
 /// A door that plays a prank.
 #[derive(Drop)]
 pub struct PrankDoor {
-    prank: Prank,
-    asked: AtomicU64,
-}
-
-impl PrankDoor {
-    /// A door that no request has passed yet.
-    pub fn new(prank: Prank) -> PrankDoor {
-        PrankDoor {
-            prank,
-            asked: AtomicU64::new(0),
-        }
-    }
+    /// What it does.
+    pub prank: Prank,
+    /// How many requests have come.
+    pub asked: AtomicU64,
 }
 
 impl Door for PrankDoor {

@@ -40,7 +40,6 @@ pub const PAIR_REQUESTS: &[Request] = &[
 ];
 
 /// What is changed of a receipt: its number, its answer, or its request.
-#[derive(Clone, Copy)]
 enum Change {
     Nothing,
     Number(u32),
@@ -48,62 +47,51 @@ enum Change {
     Request(Request),
 }
 
-/// A change of the receipt at a place.
-#[derive(Clone, Copy)]
-struct Changed {
-    at: usize,
-    change: Change,
-}
-
-/// The receipt at this place after the change.
-fn alter(receipt: Receipt, at: usize, changed: Changed) -> Receipt {
-    if at != changed.at {
-        return receipt;
-    }
-    match changed.change {
+/// The receipt after the change.
+fn alter(receipt: Receipt, change: &Change) -> Receipt {
+    match change {
         Change::Nothing => receipt,
-        Change::Number(number) => Receipt { number, ..receipt },
-        Change::Answer(answer) => Receipt { answer, ..receipt },
-        Change::Request(request) => Receipt { request, ..receipt },
+        Change::Number(number) => Receipt {
+            number: *number,
+            ..receipt
+        },
+        Change::Answer(answer) => Receipt {
+            answer: *answer,
+            ..receipt
+        },
+        Change::Request(request) => Receipt {
+            request: *request,
+            ..receipt
+        },
     }
 }
 
-/// Asks on the seat, one request after another, and keeps the receipts, which are changed so. Whether all were answered.
-fn ask_all<L: Ledger, R: Wait>(
-    rt: &R,
-    locked: &LockedGate<L>,
-    seat: &mut Seat<L>,
-    receipts: &mut Receipts,
-    requests: &[Request],
-    changed: Changed,
-) -> bool {
-    for (at, request) in requests.iter().enumerate() {
-        if receipts.reserve().is_err() {
-            return false;
-        }
-        match locked.ask(rt, seat, *request) {
-            Ok(receipt) => receipts.push_reserved(alter(receipt, at, changed)),
-            Err(_) => return false,
-        }
-    }
-    true
-}
-
-/// The log of a worker who asks these, whose receipts are changed so.
+/// The log of a worker who asks these, of whose receipts the one at a place is changed so.
 fn log_of<L: Ledger, R: Wait>(
     rt: &R,
     alloc: Global,
     locked: &LockedGate<L>,
     mut seat: Seat<L>,
     requests: &[Request],
-    changed: Changed,
+    changed: &(usize, Change),
 ) -> Result<WorkerLog<L>, RunFault> {
+    let (place, change) = changed;
     let mut receipts = Receipts::new(alloc);
-    if ask_all(rt, locked, &mut seat, &mut receipts, requests, changed) {
-        Ok(WorkerLog { seat, receipts })
-    } else {
-        Err(RunFault::Limit)
+    for (at, request) in requests.iter().enumerate() {
+        receipts.reserve()?;
+        match locked.ask(rt, &mut seat, *request) {
+            Ok(receipt) => {
+                let given = if at == *place {
+                    alter(receipt, change)
+                } else {
+                    receipt
+                };
+                receipts.push_reserved(given);
+            }
+            Err(_) => return Err(RunFault::Limit),
+        }
     }
+    Ok(WorkerLog { seat, receipts })
 }
 
 /// Whether the run that is gathered of one log is clean.
@@ -128,7 +116,7 @@ fn gather_changed<L: Ledger, R: Wait>(
     blank: Blank,
     program: &Program<Global>,
     requests: &[Request],
-    changed: Changed,
+    changed: &(usize, Change),
 ) -> Result<bool, RunFault>
     requires name { blank.name ≡ L.name }
     requires all { blank.parts ≡ L.parts }
@@ -142,51 +130,41 @@ fn gather_changed<L: Ledger, R: Wait>(
     }
 }
 
-/// Requests, and what is gathered of them with any of these changes.
-struct Case {
-    requests: &'static [Request],
-    changes: &'static [Changed],
+/// This is gathered of the requests, with any of the changes of the receipt at a place.
+fn check_changes<R: Abort + Wait>(
+    rt: &R,
+    alloc: Global,
+    program: &Program<Global>,
+    requests: &[Request],
+    changes: &[(usize, Change)],
     wanted: Result<bool, RunFault>,
-}
-
-/// So it is with each of the changes.
-fn check_changes<R: Abort + Wait>(rt: &R, alloc: Global, program: &Program<Global>, case: &Case) {
-    for changed in case.changes {
+) {
+    for changed in changes {
         let blank = Blank::new(1);
-        let found = gather_changed::<Brand, R>(rt, alloc, blank, program, case.requests, *changed);
-        equal(rt, &changed.at, &found, &case.wanted);
+        let found = gather_changed::<Brand, R>(rt, alloc, blank, program, requests, changed);
+        equal(rt, &changed.0, &found, &wanted);
     }
 }
 
-/// A change of the receipt of this number, counted from 0.
-macro_rules! change {
-    ($at:literal, $change:expr) => {
-        Changed {
-            at: $at,
-            change: $change,
-        }
-    };
-}
-
 /// Receipts with other numbers, with other answers, and of other requests.
-const CHANGES: &[Changed] = &[
-    change!(0, Change::Number(0)),
-    change!(6, Change::Number(8)),
-    change!(0, Change::Number(8)),
-    change!(3, Change::Number(0)),
-    change!(6, Change::Number(4_294_967_295)),
-    change!(0, Change::Answer(Answer::Same)),
-    change!(1, Change::Answer(Answer::Same)),
-    change!(2, Change::Answer(Answer::Value(7))),
-    change!(3, Change::Answer(Answer::Granted)),
-    change!(4, Change::Answer(Answer::EndedJoined(3))),
-    change!(5, Change::Answer(Answer::Joined(4))),
-    change!(6, Change::Answer(Answer::Ended)),
-    change!(0, Change::Request(request!(0, Act::Spawn, 6))),
-    change!(1, Change::Request(request!(1, Act::Write(0, 8), 9))),
-    change!(2, Change::Request(request!(2, Act::Read(1), 6))),
-    change!(3, Change::Request(request!(2, Act::Sync, 10))),
-    change!(6, Change::Request(request!(3, Act::Sync, 7))),
+const CHANGES: &[(usize, Change)] = &[
+    (0, Change::Number(0)),
+    (6, Change::Number(8)),
+    (0, Change::Number(8)),
+    (3, Change::Number(0)),
+    (6, Change::Number(4_294_967_295)),
+    (0, Change::Answer(Answer::Same)),
+    (1, Change::Answer(Answer::Same)),
+    (2, Change::Answer(Answer::Value(7))),
+    (3, Change::Answer(Answer::Granted)),
+    (4, Change::Answer(Answer::EndedJoined(3))),
+    (5, Change::Answer(Answer::Joined(4))),
+    (6, Change::Answer(Answer::Ended)),
+    (0, Change::Request(request!(0, Act::Spawn, 6))),
+    (1, Change::Request(request!(1, Act::Write(0, 8), 9))),
+    (2, Change::Request(request!(2, Act::Read(1), 6))),
+    (3, Change::Request(request!(2, Act::Sync, 10))),
+    (6, Change::Request(request!(3, Act::Sync, 7))),
 ];
 
 /// A history that is no run of PAIR.
@@ -201,32 +179,17 @@ const OTHER_REQUESTS: &[Request] = &[
     request!(1, Act::Return, 10),
 ];
 
-const UNCHANGED: &[Changed] = &[change!(0, Change::Nothing)];
+const UNCHANGED: &[(usize, Change)] = &[(0, Change::Nothing)];
 
 // The requests of a run and of none have all their receipts.
-const CASES: &[Case] = &[
-    Case {
-        requests: PAIR_REQUESTS,
-        changes: CHANGES,
-        wanted: Err(RunFault::Torn),
-    },
-    Case {
-        requests: PAIR_REQUESTS,
-        changes: UNCHANGED,
-        wanted: Ok(false),
-    },
-    Case {
-        requests: OTHER_REQUESTS,
-        changes: UNCHANGED,
-        wanted: Err(RunFault::Strange),
-    },
-];
-
 #[test]
 fn receipts_that_are_changed_and_requests_of_no_run(rt: HostRuntime) -> Result<(), Fail> {
     let program = Program::parse(rt.alloc(), PAIR)?;
-    for case in CASES {
-        check_changes(&rt, rt.alloc(), &program, case);
-    }
+    let alloc = rt.alloc();
+    let torn = Err(RunFault::Torn);
+    check_changes(&rt, alloc, &program, PAIR_REQUESTS, CHANGES, torn);
+    check_changes(&rt, alloc, &program, PAIR_REQUESTS, UNCHANGED, Ok(false));
+    let strange = Err(RunFault::Strange);
+    check_changes(&rt, alloc, &program, OTHER_REQUESTS, UNCHANGED, strange);
     Ok(())
 }

@@ -9,6 +9,7 @@ use race_gate::ShortGate;
 use std::alloc::{AllocError, Allocator, Global};
 use std::marker::Brand;
 use std::sync::Wait;
+use std::sync::atomic::AtomicU64;
 use std::sync::ledger::{Blank, Ledger};
 use std::thread::Threads;
 use steal_workers::run;
@@ -40,7 +41,11 @@ fn logs_of<L: Ledger + Send + Sync, R: Threads + Wait + Sync>(
     requires workers { (0 < workers) × (workers ≤ 64) }
     requires parts { seat.parts ≡ 64 }
 {
-    let gate = Prankster::new(locked, prank);
+    let gate = Prankster {
+        locked,
+        prank,
+        asked: AtomicU64::new(0),
+    };
     run(rt, alloc, program, workers, &gate, seat)
 }
 

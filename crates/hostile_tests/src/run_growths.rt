@@ -4,7 +4,7 @@
 ghost use Rattle.std.specs.Prelude.{◌≡◌, ◌<◌, ◌≤◌};
 
 use crate::checks::equal;
-use crate::locked_growths::{self, Found, Heap, found_of};
+use crate::locked_growths::{Found, Heap, found_of};
 use crate::refusing::Refusing;
 use crate::rounds::gate_for;
 use crate::worked::SMALL_FIB;
@@ -25,18 +25,20 @@ use tool_commands::{CliFault, OpenDoor, Watched, run_text};
 const PARTS: u64 = 64;
 
 /// A call of which a growth is refused.
-#[derive(Clone, Copy, Debug)]
+#[derive(Debug)]
 enum Call {
-    /// PAIR's run is asked or gathered.
-    Locked(locked_growths::Call),
-    /// A task or the last child comes for a join.
-    Comes(Comes),
-    /// A program is run.
-    Runs(Kind),
+    /// PAIR's requests are asked.
+    Ask,
+    /// PAIR's run is gathered.
+    Gather,
+    /// The task, or else the last child, comes for a join, and then the other one.
+    Meet(bool),
+    /// A program is run by one worker.
+    Run(Kind),
 }
 
 /// How a program is run.
-#[derive(Clone, Copy, Debug)]
+#[derive(Debug)]
 enum Kind {
     ByWorkers,
     Serially,
@@ -44,73 +46,32 @@ enum Kind {
     Told,
 }
 
-impl Call {
-    /// Whether each refused growth is told. A run keeps ended frames in reserve, and memory is released before a run is gathered and on the
-    /// way, for which a list may be moved; they do without what is refused then.
-    fn tells_each(self) -> bool {
-        matches!(
-            self,
-            Call::Locked(locked_growths::Call::Ask) | Call::Comes(_)
-        )
-    }
-}
-
-/// The task of `main`.
-fn make_root<'h, 'p>(
-    heap: &'h Heap,
-    program: &'p Program<Global>,
-) -> Result<Task<'p, &'h Heap>, AllocError> {
-    let frame = Frame::new(heap, program, program.main(), 0);
-    Ok(Task {
-        strand: 0,
-        program,
-        frame: Box::new(heap, frame)?,
-    })
-}
-
 /// The join for which a task waits.
 const JOIN: u32 = 5;
 
-/// Who comes for the join.
-#[derive(Clone, Copy, Debug)]
-enum Comes {
-    Task,
-    Child,
-}
-
-impl Comes {
-    fn other(self) -> Comes {
-        match self {
-            Comes::Task => Comes::Child,
-            Comes::Child => Comes::Task,
-        }
-    }
-}
-
-/// A task comes for the join.
-fn park_root<'h, 'p, R: Wait>(
-    rt: &R,
-    heap: &'h Heap,
-    program: &'p Program<Global>,
-    lot: &Lot<'p, &'h Heap>,
-) -> Result<Option<Task<'p, &'h Heap>>, LotFault> {
-    match make_root(heap, program) {
-        Ok(task) => lot.park(rt, JOIN, task),
-        Err(AllocError) => Err(LotFault::Memory),
-    }
-}
-
-/// A task or the last child comes for the join. The strand of the task that goes on behind it, where both came.
+/// The task of `main`, or else the last child, comes for the join. The strand of the task that goes on behind it, where both came.
 fn come<'h, 'p, R: Wait>(
     rt: &R,
     heap: &'h Heap,
     program: &'p Program<Global>,
     lot: &Lot<'p, &'h Heap>,
-    comes: Comes,
+    is_task: bool,
 ) -> Result<Option<u32>, LotFault> {
-    let met = match comes {
-        Comes::Task => park_root(rt, heap, program, lot),
-        Comes::Child => lot.wake(rt, JOIN),
+    let met = if is_task {
+        let frame = Frame::new(heap, program, program.main(), 0);
+        match Box::new(heap, frame) {
+            Ok(frame) => {
+                let task = Task {
+                    strand: 0,
+                    program,
+                    frame,
+                };
+                lot.park(rt, JOIN, task)
+            }
+            Err(_) => Err(LotFault::Memory),
+        }
+    } else {
+        lot.wake(rt, JOIN)
     };
     match met {
         Ok(Some(task)) => Ok(Some(task.strand)),
@@ -119,44 +80,25 @@ fn come<'h, 'p, R: Wait>(
     }
 }
 
-/// A task or the last child comes for a join, once more where there was no memory, and then the other one.
-fn meet<'h, 'p, R: Wait>(
+/// The task or the last child comes for a join, once more where there was no memory, and then the other one.
+fn meet<'p, R: Wait>(
     rt: &R,
-    heap: &'h Heap,
+    heap: &Heap,
     program: &'p Program<Global>,
     number: u64,
-    comes: Comes,
+    is_task: bool,
 ) -> Option<Found> {
     let lot = Lot::new(heap);
     heap.refuse(number);
-    let asked = come(rt, heap, program, &lot, comes);
+    let mut first = come(rt, heap, program, &lot, is_task);
     let was_refused = heap.has_refused();
     heap.refuse(0);
-    let is_told = asked == Err(LotFault::Memory);
-    let first = match is_told {
-        true => come(rt, heap, program, &lot, comes),
-        false => asked,
-    };
-    let is_right = first == Ok(None)
-        && come(rt, heap, program, &lot, comes.other()) == Ok(Some(JOIN));
-    is_right.then_some(Found {
-        was_refused,
-        is_told,
-    })
-}
-
-/// Whether there was no memory for a run of the program, of which every schedule is clean, has as many entries, and leaves the same memory.
-fn lacks_memory(run: &Result<Whole<&Heap>, RunFault>) -> Option<bool> {
-    match run {
-        Ok(whole) => {
-            let is_right = whole.clean
-                && whole.entries.len() == 65
-                && whole.memory.as_slice() == [5].as_slice();
-            is_right.then_some(false)
-        }
-        Err(RunFault::Memory) => Some(true),
-        Err(_) => None,
+    let is_told = first == Err(LotFault::Memory);
+    if is_told {
+        first = come(rt, heap, program, &lot, is_task);
     }
+    let second = come(rt, heap, program, &lot, !is_task);
+    (first == Ok(None) && second == Ok(Some(JOIN))).then_some((was_refused, is_told))
 }
 
 /// A run of the program that is gathered.
@@ -182,7 +124,7 @@ fn run_and_gather<
     gather(alloc, program, locked, logs)
 }
 
-/// Whether there is no memory for a run by so many workers.
+/// Whether there is no memory for a run by so many workers. Every schedule is clean, has as many entries, and leaves the same memory.
 fn lacks_run<R: Threads + Wait + Sync>(
     rt: &R,
     heap: &Heap,
@@ -191,8 +133,16 @@ fn lacks_run<R: Threads + Wait + Sync>(
 ) -> Option<bool>
     requires { (0 < workers) × (workers ≤ 64) }
 {
-    let run = run_and_gather::<Brand, &Heap, R>(rt, heap, program, workers, Blank::new(PARTS));
-    lacks_memory(&run)
+    match run_and_gather::<Brand, &Heap, R>(rt, heap, program, workers, Blank::new(PARTS)) {
+        Ok(whole) => {
+            let is_right = whole.clean
+                && whole.entries.len() == 65
+                && whole.memory.as_slice() == [5].as_slice();
+            is_right.then_some(false)
+        }
+        Err(RunFault::Memory) => Some(true),
+        Err(_) => None,
+    }
 }
 
 /// Whether there is no memory for a run in the serial order, which asks a gate of its own.
@@ -212,13 +162,13 @@ fn lacks_serially(heap: &Heap, program: &Program<Global>) -> Option<bool> {
 const REPORT: &[u8] =
     b"{\"clean\":true,\"entries\":65,\"memory\":{\"x\":5},\"refusals\":[],\"schedules\":\"clean for every schedule\"}\n";
 
-/// What the command answers and writes.
-fn perform<R: Threads + Wait + Sync>(
+/// Whether there is no memory for the command, which writes nothing then.
+fn lacks_command<R: Threads + Wait + Sync>(
     rt: &R,
     alloc: Global,
     heap: &Heap,
     workers: usize,
-) -> (Result<u8, CliFault>, Vec<u8>)
+) -> Option<bool>
     requires { (0 < workers) × (workers ≤ 64) }
 {
     let mut program = Watched::new(SMALL_FIB);
@@ -233,19 +183,7 @@ fn perform<R: Threads + Wait + Sync>(
         &mut output,
         1_000_000,
     );
-    (answer, output.into_inner())
-}
-
-/// Whether there is no memory for the command, which writes nothing then.
-fn lacks_command<R: Threads + Wait + Sync>(
-    rt: &R,
-    alloc: Global,
-    heap: &Heap,
-    workers: usize,
-) -> Option<bool>
-    requires { (0 < workers) × (workers ≤ 64) }
-{
-    let (answer, told) = perform(rt, alloc, heap, workers);
+    let told = output.into_inner();
     match answer {
         Ok(status) => (status == 0 && told.as_slice() == REPORT).then_some(false),
         Err(CliFault::Memory) => told.is_empty().then_some(true),
@@ -259,7 +197,7 @@ fn lacks<R: Threads + Wait + Sync>(
     alloc: Global,
     heap: &Heap,
     program: &Program<Global>,
-    kind: Kind,
+    kind: &Kind,
     workers: usize,
 ) -> Option<bool>
     requires { (0 < workers) × (workers ≤ 64) }
@@ -278,7 +216,7 @@ fn run_twice<R: Threads + Wait + Sync>(
     heap: &Heap,
     program: &Program<Global>,
     number: u64,
-    kind: Kind,
+    kind: &Kind,
     workers: usize,
 ) -> Option<Found>
     requires { (0 < workers) × (workers ≤ 64) }
@@ -287,26 +225,8 @@ fn run_twice<R: Threads + Wait + Sync>(
     let is_told = lacks(rt, alloc, heap, program, kind, workers)?;
     let was_refused = heap.has_refused();
     heap.refuse(0);
-    (lacks(rt, alloc, heap, program, kind, workers) == Some(false)).then_some(Found {
-        was_refused,
-        is_told,
-    })
-}
-
-/// Makes the call where its growth of this number is refused. None where what it answered or left is not as it is to be.
-fn find<R: Threads + Wait + Sync>(
-    rt: &R,
-    alloc: Global,
-    program: &Program<Global>,
-    number: u64,
-    call: Call,
-) -> Option<Found> {
-    let heap = Refusing::new(alloc);
-    match call {
-        Call::Locked(call) => found_of(rt, &heap, number, call),
-        Call::Comes(comes) => meet(rt, &heap, program, number, comes),
-        Call::Runs(kind) => run_twice(rt, alloc, &heap, program, number, kind, 1),
-    }
+    let again = lacks(rt, alloc, heap, program, kind, workers)?;
+    (!again).then_some((was_refused, is_told))
 }
 
 /// Where the growths of a call have no end.
@@ -318,14 +238,25 @@ fn tell_in_turn<R: Threads + Wait + Sync>(
     rt: &R,
     alloc: Global,
     program: &Program<Global>,
-    call: Call,
+    call: &Call,
 ) -> Result<u64, u64> {
+    // A run keeps ended frames in reserve, and memory is released before a run is gathered and on the way, for which a list may be moved.
+    // They do without what is refused then; the other calls tell each refused growth.
+    let may_do_without = matches!(call, Call::Gather | Call::Run(_));
     let mut told = 0u64;
     for growths in 0..ENDLESS {
-        match find(rt, alloc, program, growths.saturating_add(1), call) {
-            Some(found) if !found.was_refused && !found.is_told => return Ok(told),
-            Some(found) if found.was_refused && found.is_told => told = told.saturating_add(1),
-            Some(found) if found.was_refused && !call.tells_each() => {}
+        let heap = Refusing::new(alloc);
+        let number = growths.saturating_add(1);
+        let found = match call {
+            Call::Ask => found_of(rt, &heap, number, false),
+            Call::Gather => found_of(rt, &heap, number, true),
+            Call::Meet(is_task) => meet(rt, &heap, program, number, *is_task),
+            Call::Run(kind) => run_twice(rt, alloc, &heap, program, number, kind, 1),
+        };
+        match found {
+            Some((false, false)) => return Ok(told),
+            Some((true, true)) => told = told.saturating_add(1),
+            Some((true, false)) if may_do_without => {}
             _ => return Err(growths),
         }
     }
@@ -334,22 +265,22 @@ fn tell_in_turn<R: Threads + Wait + Sync>(
 
 /// Calls, and how many refusals each tells at least.
 const CALLS: &[(Call, u64)] = &[
-    (Call::Locked(locked_growths::Call::Ask), 1),
-    (Call::Locked(locked_growths::Call::Gather), 1),
-    (Call::Comes(Comes::Task), 3),
-    (Call::Comes(Comes::Child), 1),
-    (Call::Runs(Kind::ByWorkers), 20),
-    (Call::Runs(Kind::Serially), 10),
-    (Call::Runs(Kind::Told), 20),
+    (Call::Ask, 1),
+    (Call::Gather, 1),
+    (Call::Meet(true), 3),
+    (Call::Meet(false), 1),
+    (Call::Run(Kind::ByWorkers), 20),
+    (Call::Run(Kind::Serially), 10),
+    (Call::Run(Kind::Told), 20),
 ];
 
 #[test]
 fn calls_whose_growths_are_refused(rt: HostRuntime) -> Result<(), Fail> {
     let program = Program::parse(rt.alloc(), SMALL_FIB)?;
     for (call, least) in CALLS {
-        let told = tell_in_turn(&rt, rt.alloc(), &program, *call);
+        let told = tell_in_turn(&rt, rt.alloc(), &program, call);
         let is_right = matches!(told, Ok(count) if *least <= count);
-        equal(&rt, &(*call, told), &is_right, &true);
+        equal(&rt, &(call, told), &is_right, &true);
     }
     Ok(())
 }
@@ -360,35 +291,23 @@ const RUNS: u64 = 30;
 /// Most numbers of growths that are refused are below this one.
 const NUMBERS: u64 = 100;
 
-/// The number of the growth that is refused in this run: others from run to run, in no order.
-fn draw_number(run: u64) -> u64 {
-    let mixed = run.wrapping_mul(0x9E37_79B9_7F4A_7C15) >> 32;
-    (mixed % NUMBERS).saturating_add(1)
-}
-
-/// Whether the call went well, or told want of memory where a growth was refused.
-fn is_borne_out(found: Option<Found>) -> bool {
-    match found {
-        Some(found) => found.was_refused || !found.is_told,
-        None => false,
-    }
-}
-
-/// Runs of this kind by so many workers, each with a growth refused, go well or tell it.
+/// Runs of this kind by so many workers, each with another growth refused, in no order, go well or tell it.
 fn check_runs<R: Abort + Threads + Wait + Sync>(
     rt: &R,
     alloc: Global,
     program: &Program<Global>,
-    kind: Kind,
+    kind: &Kind,
     workers: usize,
 )
     requires { (0 < workers) × (workers ≤ 64) }
 {
     for run in 0..RUNS {
-        let number = draw_number(run);
+        let mixed = run.wrapping_mul(0x9E37_79B9_7F4A_7C15) >> 32;
+        let number = (mixed % NUMBERS).saturating_add(1);
         let heap = Refusing::new(alloc);
         let found = run_twice(rt, alloc, &heap, program, number, kind, workers);
-        equal(rt, &(kind, workers, number), &is_borne_out(found), &true);
+        let is_right = matches!(found, Some((was_refused, is_told)) if was_refused || !is_told);
+        equal(rt, &(kind, workers, number), &is_right, &true);
     }
 }
 
@@ -396,8 +315,8 @@ fn check_runs<R: Abort + Threads + Wait + Sync>(
 fn runs_by_more_workers(rt: HostRuntime) -> Result<(), Fail> {
     let program = Program::parse(rt.alloc(), SMALL_FIB)?;
     for kind in &[Kind::ByWorkers, Kind::Told] {
-        check_runs(&rt, rt.alloc(), &program, *kind, 2);
-        check_runs(&rt, rt.alloc(), &program, *kind, 8);
+        check_runs(&rt, rt.alloc(), &program, kind, 2);
+        check_runs(&rt, rt.alloc(), &program, kind, 8);
     }
     Ok(())
 }

@@ -13,7 +13,6 @@ use std::test::Fail;
 use std::thread::Threads;
 
 /// A clean program, how many entries a run of it has, the memory that each leaves, and how often it is run by each number of workers.
-#[derive(Clone, Copy)]
 struct Clean<'a> {
     text: &'a [u8],
     entries: usize,
@@ -22,38 +21,26 @@ struct Clean<'a> {
     workers: &'a [usize],
 }
 
-/// Whether a run by so many workers has so many entries, is clean, and leaves this memory.
-fn is_run<R: Threads + Wait + Sync>(
-    rt: &R,
-    alloc: Global,
-    program: &Program<Global>,
-    clean: Clean<'_>,
-    workers: usize,
-) -> bool
-    requires { (0 < workers) × (workers ≤ 64) }
-{
-    match play(rt, alloc, program, workers, Prank::Turns) {
-        Ok(whole) => {
-            whole.clean
-                && whole.entries.len() == clean.entries
-                && whole.memory.as_slice() == clean.memory
-        }
-        Err(_) => false,
-    }
-}
-
-/// So it is with each of the runs by so many workers.
+/// Each run by so many workers has so many entries, is clean, and leaves this memory.
 fn check_runs<R: Abort + Threads + Wait + Sync>(
     rt: &R,
     alloc: Global,
     program: &Program<Global>,
-    clean: Clean<'_>,
+    clean: &Clean<'_>,
     workers: usize,
 )
     requires { (0 < workers) × (workers ≤ 64) }
 {
     for _ in 0..clean.times {
-        assert!(rt; is_run(rt, alloc, program, clean, workers));
+        let is_right = match play(rt, alloc, program, workers, Prank::Turns) {
+            Ok(whole) => {
+                whole.clean
+                    && whole.entries.len() == clean.entries
+                    && whole.memory.as_slice() == clean.memory
+            }
+            Err(_) => false,
+        };
+        assert!(rt; is_right);
     }
 }
 
@@ -61,7 +48,7 @@ fn check_runs<R: Abort + Threads + Wait + Sync>(
 fn check<R: Abort + Threads + Wait + Sync>(
     rt: &R,
     alloc: Global,
-    clean: Clean<'_>,
+    clean: &Clean<'_>,
 ) -> Result<(), Fail> {
     let program = Program::parse(alloc, clean.text)?;
     for workers in clean.workers {
@@ -99,7 +86,7 @@ const PROGRAMS: &[Clean<'static>] = &[
 #[test]
 fn programs_by_any_number(rt: HostRuntime) -> Result<(), Fail> {
     for clean in PROGRAMS {
-        check(&rt, rt.alloc(), *clean)?;
+        check(&rt, rt.alloc(), clean)?;
     }
     Ok(())
 }
@@ -114,11 +101,11 @@ const BY_ALL: Clean<'static> = Clean {
 
 #[test]
 fn fibonacci_by_all(rt: HostRuntime) -> Result<(), Fail> {
-    check(&rt, rt.alloc(), BY_ALL)
+    check(&rt, rt.alloc(), &BY_ALL)
 }
 
 // In two parts, since many threads take long where other work is done.
 #[test]
 fn fibonacci_by_all_once_more(rt: HostRuntime) -> Result<(), Fail> {
-    check(&rt, rt.alloc(), BY_ALL)
+    check(&rt, rt.alloc(), &BY_ALL)
 }

@@ -24,14 +24,6 @@ fn print_program(alloc: Global, text: &[u8]) -> Option<Vec<u8>> {
     }
 }
 
-/// Whether two texts mean one program.
-fn mean_one(alloc: Global, one: &[u8], other: &[u8]) -> bool {
-    match (print_program(alloc, one), print_program(alloc, other)) {
-        (Some(found), Some(wanted)) => found.as_slice() == wanted.as_slice(),
-        _ => false,
-    }
-}
-
 /// The text without its last byte.
 fn without_last(text: &[u8]) -> &[u8] {
     match text.split_last() {
@@ -47,7 +39,8 @@ fn check_program(rt: &impl Abort, alloc: Global, text: &[u8]) {
         let is_faulty = matches!(meant_by(alloc, &cut[..end]), Some(Err(_)));
         equal(rt, &end, &is_faulty, &true);
     }
-    assert!(rt; mean_one(alloc, cut, text));
+    let printed = print_program(alloc, text);
+    assert!(rt; printed.is_some() && printed == print_program(alloc, cut));
 }
 
 #[test]
@@ -66,35 +59,18 @@ pub(crate) fn found_of(alloc: Global, text: &[u8]) -> Option<Result<usize, (u32,
     }
 }
 
-/// A line of a trace, and how many of its bytes are the least that mean something.
-#[derive(Clone, Copy)]
-struct Part<'a> {
-    line: &'a str,
-    least: usize,
-}
-
-/// A line and its least part.
-macro_rules! part {
-    ($line:literal, $least:literal) => {
-        Part {
-            line: $line,
-            least: $least,
-        }
-    };
-}
-
-/// The lines of PAIR's trace.
-const PARTS: &[Part<'static>] = &[
-    part!("cilk 1", 6),
-    part!("mem x", 5),
-    part!("mem y", 5),
-    part!("spawn 0 @5", 7),
-    part!("write 1 x 7 @9", 11),
-    part!("read 2 x @6", 8),
-    part!("sync 1 @10", 6),
-    part!("return 1 @10", 8),
-    part!("sync 2 @7", 6),
-    part!("return 3 @7", 8),
+/// The lines of PAIR's trace, and of each how many bytes are the least that mean something.
+const PARTS: &[(&str, usize)] = &[
+    ("cilk 1", 6),
+    ("mem x", 5),
+    ("mem y", 5),
+    ("spawn 0 @5", 7),
+    ("write 1 x 7 @9", 11),
+    ("read 2 x @6", 8),
+    ("sync 1 @10", 6),
+    ("return 1 @10", 8),
+    ("sync 2 @7", 6),
+    ("return 3 @7", 8),
 ];
 
 /// How many of the lines up to this number ask for something: all behind the third.
@@ -103,74 +79,51 @@ fn requests_to(number: u32) -> usize {
 }
 
 /// What the text means whose line of this number breaks off behind so many bytes.
-fn meaning_of(part: Part<'_>, number: u32, end: usize) -> Result<usize, (u32, Cause)> {
-    if end < part.least && number == 1 {
+fn meaning_of(line: &str, least: usize, number: u32, end: usize) -> Result<usize, (u32, Cause)> {
+    if end < least && number == 1 {
         Err((1, Cause::BadHeader))
     } else if end == 0 {
         Ok(requests_to(number.saturating_sub(1)))
-    } else if end < part.least {
+    } else if end < least {
         Err((number, Cause::BadWord))
-    } else if part.line.as_bytes().get(end - 1) == Some(&b'@') {
+    } else if line.as_bytes().get(end - 1) == Some(&b'@') {
         Err((number, Cause::BadNumber))
     } else {
         Ok(requests_to(number))
     }
 }
 
-/// So it is wherever a line breaks off that stands behind so many bytes.
-fn check_part(rt: &impl Abort, alloc: Global, part: Part<'_>, number: u32, start: usize) {
-    for end in 0..part.line.len().saturating_add(1) {
+/// The line of this number stands in the trace behind so many bytes, and so it is wherever it breaks off.
+fn check_line(rt: &impl Abort, alloc: Global, part: &(&str, usize), number: u32, start: usize) {
+    let (line, least) = *part;
+    let rest = PAIR_TRACE.get(start..).unwrap_or(&[]);
+    assert!(rt; rest.starts_with(line.as_bytes()));
+    for end in 0..line.len().saturating_add(1) {
         let length = start.saturating_add(end).min(PAIR_TRACE.len());
         let found = found_of(alloc, &PAIR_TRACE[..length]);
-        equal(
-            rt,
-            &(number, end),
-            &found,
-            &Some(meaning_of(part, number, end)),
-        );
+        let wanted = Some(meaning_of(line, least, number, end));
+        equal(rt, &(number, end), &found, &wanted);
     }
 }
 
-/// The line stands in the trace behind so many bytes.
-fn stands(line: &[u8], start: usize) -> bool {
-    match PAIR_TRACE.get(start..) {
-        Some(rest) => rest.starts_with(line),
-        None => false,
-    }
-}
-
-/// These are the lines of the trace, and so it is with each.
-fn check_parts(rt: &impl Abort, alloc: Global, parts: &[Part<'_>]) {
-    let mut start = 0usize;
-    let mut number = 1u32;
-    for part in parts {
-        assert!(rt; stands(part.line.as_bytes(), start));
-        check_part(rt, alloc, *part, number, start);
-        start = start.saturating_add(part.line.len()).saturating_add(1);
-        number = number.saturating_add(1);
-    }
-    assert!(rt; start == PAIR_TRACE.len());
-}
-
-/// A text's trace, printed with each line in its place.
-fn print_trace(alloc: Global, text: &[u8]) -> Option<Vec<u8>> {
-    match Trace::parse(alloc, text) {
-        Ok(trace) => trace.print(alloc).ok(),
-        Err(_) => None,
-    }
-}
-
-/// Whether a text means PAIR's trace.
+/// Whether a text means PAIR's trace, printed with each line in its place.
 fn means_pair(alloc: Global, text: &[u8]) -> bool {
-    match print_trace(alloc, text) {
-        Some(printed) => printed.as_slice() == PAIR_TRACE,
-        None => false,
+    match Trace::parse(alloc, text) {
+        Ok(trace) => matches!(trace.print(alloc), Ok(printed) if printed.as_slice() == PAIR_TRACE),
+        Err(_) => false,
     }
 }
 
 #[test]
 fn parts_of_a_trace(rt: HostRuntime) {
-    check_parts(&rt, rt.alloc(), PARTS);
+    let mut start = 0usize;
+    let mut number = 1u32;
+    for part in PARTS {
+        check_line(&rt, rt.alloc(), part, number, start);
+        start = start.saturating_add(part.0.len()).saturating_add(1);
+        number = number.saturating_add(1);
+    }
+    assert!(rt; start == PAIR_TRACE.len());
     assert!(rt; means_pair(rt.alloc(), without_last(PAIR_TRACE)));
     assert!(rt; means_pair(rt.alloc(), PAIR_TRACE));
 }

@@ -2,12 +2,9 @@
 
 use super::Command::Elide;
 use super::Wanted::{Filled, Text};
-use super::{Takes, check, push_number};
+use super::{Takes, check};
 use std::alloc::{AllocError, Global};
-use std::process::Abort;
-use std::sync::Wait;
 use std::test::Fail;
-use std::thread::Threads;
 
 /// A program of 20,001 cells.
 const WIDE: &str = "cilk 1\nmem a 20000\nmem x\nfunc main z\nwrite a[19999] 5\nwrite x 6\nend\n";
@@ -17,7 +14,7 @@ const WIDE: &str = "cilk 1\nmem a 20000\nmem x\nfunc main z\nwrite a[19999] 5\nw
 fn write_wide_memory(alloc: Global) -> Result<String, AllocError> {
     let mut lines = String::new(alloc);
     for index in 0..19_999u32 {
-        push_number(&mut lines, "a[", index, "] 0\n")?;
+        write!(lines, "a[{index}] 0\n")?;
     }
     lines.push_str("a[19999] 5\nx 6\nrequests 4\n")?;
     Ok(lines)
@@ -38,18 +35,15 @@ const WRITERS: &[Takes] = &[
 ];
 
 /// Its elision is these lines, which are written to a writer just where it goes along with enough calls.
-fn check_wide<R: Abort + Threads + Wait + Sync>(rt: &R, alloc: Global, lines: &str) {
-    let program = WIDE.as_bytes();
-    check(rt, alloc, Elide, program, Text(0, lines));
-    for takes in WRITERS {
-        let wanted = Filled(*takes, 208_906, lines);
-        check(rt, alloc, Elide, program, wanted);
-    }
-}
-
 #[test]
 fn an_elision_of_many_cells_that_can_be_written_or_not(rt: HostRuntime) -> Result<(), Fail> {
     let lines = write_wide_memory(rt.alloc())?;
-    check_wide(&rt, rt.alloc(), lines.as_str());
+    let program = WIDE.as_bytes();
+    let wanted = Text(0, lines.as_str());
+    check(&rt, rt.alloc(), Elide, program, wanted);
+    for takes in WRITERS {
+        let wanted = Filled(*takes, 208_906, lines.as_str());
+        check(&rt, rt.alloc(), Elide, program, wanted);
+    }
     Ok(())
 }

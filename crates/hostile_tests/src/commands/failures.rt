@@ -3,15 +3,14 @@
 use super::Command::{Draw, Elide, Follow, Judge, Replay, Run, Trace};
 use super::Wanted::{Filled, Interrupted, Text, TooLong, Unread};
 use super::{Command, Takes, check};
-use crate::devices::{Breaking, Interrupted as InterruptedReader, Spaces};
+use crate::devices::{Breaking, Spaces};
 use std::alloc::Global;
-use std::io;
+use std::io::{self, ErrorKind};
 use std::process::Abort;
 use std::sync::Wait;
 use std::thread::Threads;
 
 /// A command over a short text, of so many bytes, and the text that it writes, in so many calls: one for each byte, and the flush.
-#[derive(Clone, Copy)]
 struct Short {
     command: Command<'static>,
     read: &'static str,
@@ -74,26 +73,34 @@ const SHORT: &[Short] = &[
 ];
 
 /// A reader that fails before the text has ended is told, and one that would fail later is as good as another.
-fn check_reader<R: Abort + Threads + Wait + Sync>(rt: &R, alloc: Global, short: Short) {
+fn check_reader<R: Abort + Threads + Wait + Sync>(rt: &R, alloc: Global, short: &Short) {
     let text = short.read.as_bytes();
     assert!(rt; text.len() == short.bytes as usize);
     for left in 0..short.bytes.saturating_add(3) {
         let wanted = if left <= short.bytes {
-            Unread(left)
+            Unread
         } else {
             Text(0, short.written)
         };
-        check(rt, alloc, short.command, Breaking { text, left }, wanted);
+        let reader = Breaking {
+            text,
+            most: 1,
+            left,
+            error: ErrorKind::Other,
+        };
+        check(rt, alloc, short.command, reader, wanted);
     }
-    let reader = InterruptedReader {
+    let reader = Breaking {
         text,
-        was_asked: false,
+        most: usize::MAX,
+        left: 0,
+        error: ErrorKind::Interrupted,
     };
     check(rt, alloc, short.command, reader, Interrupted);
 }
 
 /// A writer that takes nothing behind some calls, or answers an error behind them, fails just where it goes along with too few.
-fn check_writer<R: Abort + Threads + Wait + Sync>(rt: &R, alloc: Global, short: Short) {
+fn check_writer<R: Abort + Threads + Wait + Sync>(rt: &R, alloc: Global, short: &Short) {
     let text = short.read.as_bytes();
     for left in 0..short.calls.saturating_add(1) {
         for takes in &[Takes::Calls(left), Takes::CallsThenErrors(left)] {
@@ -106,8 +113,8 @@ fn check_writer<R: Abort + Threads + Wait + Sync>(rt: &R, alloc: Global, short: 
 #[test]
 fn readers_and_writers_that_fail(rt: HostRuntime) {
     for short in SHORT {
-        check_reader(&rt, rt.alloc(), *short);
-        check_writer(&rt, rt.alloc(), *short);
+        check_reader(&rt, rt.alloc(), short);
+        check_writer(&rt, rt.alloc(), short);
     }
 }
 

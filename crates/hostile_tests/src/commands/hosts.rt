@@ -22,14 +22,6 @@ struct Texts<'a> {
     files: &'a [(&'a str, &'a str)],
 }
 
-/// Gives the bytes of a text.
-fn reader(text: &str) -> Breaking<'_> {
-    Breaking {
-        text: text.as_bytes(),
-        left: u32::MAX,
-    }
-}
-
 impl<'a> Host for Texts<'a> {
     type Input = Breaking<'a>;
 
@@ -50,13 +42,13 @@ impl<'a> Host for Texts<'a> {
     ghost says_one = { λ _ _ _ _. ⊤ };
 
     fn input(&mut self) -> Breaking<'a> {
-        reader(self.input)
+        Breaking::into_pieces(self.input.as_bytes(), 1)
     }
 
     fn open(&self, name: &str) -> io::Result<Breaking<'a>> {
         for (known, text) in self.files {
             if *known == name {
-                return Ok(reader(text));
+                return Ok(Breaking::into_pieces(text.as_bytes(), 1));
             }
         }
         Err(Error::from(ErrorKind::NotFound))
@@ -93,26 +85,6 @@ fn perform_over<R: Threads + Wait + Sync>(
     outcome_of(answer, &host, output)
 }
 
-/// What comes of a job that starts no thread.
-fn perform_alone_over(alloc: Global, texts: Texts<'_>, job: &Job) -> Outcome
-    requires ranges { IsInRange job.now }
-    requires alone { IsAlone job.now }
-{
-    let mut host = Watched::new(texts);
-    let mut output = Watched::new(Takes::All.writer(alloc));
-    let answer = perform_alone(alloc, &mut host, job, &mut output);
-    outcome_of(answer, &host, output)
-}
-
-/// The job that shows this text.
-fn show_job(alloc: Global, text: &str) -> Result<Job, AllocError>
-    ensures ranges { IfOk result IsInRange }
-    ensures alone { IfOk result IsAlone }
-{
-    let text = String::from_str(alloc, text)?;
-    Ok(Job::Show { text })
-}
-
 /// No text at all.
 const NOTHING: Texts<'static> = Texts {
     input: "",
@@ -122,25 +94,17 @@ const NOTHING: Texts<'static> = Texts {
 /// A text is shown, by either call.
 #[test]
 fn a_text_that_is_shown(rt: HostRuntime) -> Result<(), Fail> {
-    let job = show_job(rt.alloc(), "one\ntwo\n")?;
+    let job = Job::Show {
+        text: String::from_str(rt.alloc(), "one\ntwo\n")?,
+    };
     let wanted = Text(0, "one\ntwo\n");
     let told = perform_over(&rt, rt.alloc(), NOTHING, &job);
     meets(&rt, rt.alloc(), &told, wanted);
-    let told = perform_alone_over(rt.alloc(), NOTHING, &job);
-    meets(&rt, rt.alloc(), &told, wanted);
+    let mut host = Watched::new(NOTHING);
+    let mut output = Watched::new(Takes::All.writer(rt.alloc()));
+    let answer = perform_alone(rt.alloc(), &mut host, &job, &mut output);
+    meets(&rt, rt.alloc(), &outcome_of(answer, &host, output), wanted);
     Ok(())
-}
-
-/// The job that runs the program by two workers.
-fn run_job(alloc: Global) -> Result<Job, AllocError>
-    ensures { IfOk result IsInRange }
-{
-    let file = String::from_str(alloc, "program")?;
-    Ok(Job::Run {
-        file,
-        workers: 2,
-        limit: MOST,
-    })
 }
 
 /// A program that spawns a write and, behind 10,001 calls, reads what is written: there is the time to steal the child.
@@ -156,28 +120,17 @@ const STOLEN: Texts<'static> = Texts {
 const STOLEN_REPORT: &str =
     "{\"clean\":false,\"entries\":30010,\"memory\":{\"x\":7},\"refusals\":[{\"entry\":";
 
-/// Whether the report of the job's run begins so.
-fn is_stolen<R: Threads + Wait + Sync>(rt: &R, alloc: Global, job: &Job) -> bool
-    requires { IsInRange job.now }
-{
-    let outcome = perform_over(rt, alloc, STOLEN, job);
-    is_ended(&outcome, 1)
-        && outcome
-            .output
-            .held
-            .as_slice()
-            .starts_with(STOLEN_REPORT.as_bytes())
-}
-
 /// How often the run is tried in which the child is stolen.
 const TRIES: u32 = 20;
 
-/// Whether it is so in one of some runs.
+/// Whether the report of one of some runs begins so.
 fn is_stolen_once<R: Threads + Wait + Sync>(rt: &R, alloc: Global, job: &Job) -> bool
     requires { IsInRange job.now }
 {
     for _ in 0..TRIES {
-        if is_stolen(rt, alloc, job) {
+        let outcome = perform_over(rt, alloc, STOLEN, job);
+        let written = outcome.output.held.as_slice();
+        if is_ended(&outcome, 1) && written.starts_with(STOLEN_REPORT.as_bytes()) {
             return true;
         }
     }
@@ -187,7 +140,11 @@ fn is_stolen_once<R: Threads + Wait + Sync>(rt: &R, alloc: Global, job: &Job) ->
 /// Of two workers the second steals what the first has spawned.
 #[test]
 fn a_second_worker_steals(rt: HostRuntime) -> Result<(), Fail> {
-    let job = run_job(rt.alloc())?;
+    let job = Job::Run {
+        file: String::from_str(rt.alloc(), "program")?,
+        workers: 2,
+        limit: MOST,
+    };
     assert!(rt; is_stolen_once(&rt, rt.alloc(), &job));
     Ok(())
 }

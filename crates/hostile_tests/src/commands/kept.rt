@@ -6,15 +6,12 @@ ghost use Rattle.command_streams.specs.Watched.{has_failed};
 
 use super::Command::{Explain, ExplainAsJson};
 use super::Wanted::Text;
-use super::pieces::{LATE, Long, RETURNS, WIDE, check_broken};
-use super::{Command, Wanted, check};
-use crate::devices::Giving;
+use super::pieces::{LATE, Long, RETURNS, WIDE, check_broken, check_pieces};
+use super::{Command, Wanted};
 use command_streams::{KeptText, read_kept};
-use std::alloc::{AllocError, Global};
+use std::alloc::Global;
 use std::process::Abort;
-use std::sync::Wait;
 use std::test::Fail;
-use std::thread::Threads;
 use tool_commands::Watched;
 
 /// A head, lines that are repeated, and a tail.
@@ -132,23 +129,6 @@ const PROGRAM_TOLD: &str =
 /// How many bytes a reader gives at each read at most.
 const PIECES: &[usize] = &[7, 100_003, 131_072];
 
-/// The command over this text does what is wanted, in whatever pieces it comes.
-fn check_long<R: Abort + Threads + Wait + Sync>(
-    rt: &R,
-    alloc: Global,
-    command: Command<'_>,
-    long: Long,
-    wanted: Wanted<'_>,
-) -> Result<(), Fail> {
-    let text = long.text(alloc)?;
-    let text = text.as_bytes();
-    for most in PIECES {
-        let reader = Giving { text, most: *most };
-        check(rt, alloc, command, reader, wanted);
-    }
-    Ok(())
-}
-
 /// Texts, and whether all behind the first piece are plain lines of requests.
 const KEPT: &[(Long, bool)] = &[
     (PLAIN, true),
@@ -166,21 +146,15 @@ const KEPT: &[(Long, bool)] = &[
     (PROGRAM, false),
 ];
 
-/// The text that is kept, and whether only its head stands as it was read.
-fn kept_text(alloc: Global, source: &KeptText<Global>) -> Result<(Vec<u8>, bool), AllocError> {
-    match source {
-        KeptText::Whole(text) => Ok((Vec::from_slice(alloc, text.as_slice())?, false)),
-        KeptText::Plain(kept) => Ok((kept.to_text(alloc)?, true)),
-    }
-}
-
 /// The text is given again, and it stands as it was read unless it is plain.
-fn check_kept(rt: &impl Abort, alloc: Global, long: Long, is_plain: bool) -> Result<(), Fail> {
+fn check_kept(rt: &impl Abort, alloc: Global, long: &Long, is_plain: bool) -> Result<(), Fail> {
     let text = long.text(alloc)?;
     let mut reader = Watched::new(text.as_bytes());
-    let source = read_kept(alloc, &mut reader)?;
-    let (given, is_packed) = kept_text(alloc, &source)?;
-    assert!(rt; given.as_slice() == text.as_bytes() && is_packed == is_plain);
+    let is_right = match read_kept(alloc, &mut reader)? {
+        KeptText::Whole(kept) => !is_plain && kept.as_slice() == text.as_bytes(),
+        KeptText::Plain(kept) => { is_plain && kept.to_text(alloc)?.as_slice() == text.as_bytes() }
+    };
+    assert!(rt; is_right);
     Ok(())
 }
 
@@ -188,7 +162,7 @@ fn check_kept(rt: &impl Abort, alloc: Global, long: Long, is_plain: bool) -> Res
 #[test]
 fn plain_lines_are_kept_as_requests(rt: HostRuntime) -> Result<(), Fail> {
     for (long, is_plain) in KEPT {
-        check_kept(&rt, rt.alloc(), *long, *is_plain)?;
+        check_kept(&rt, rt.alloc(), long, *is_plain)?;
     }
     Ok(())
 }
@@ -217,7 +191,8 @@ const TOLD: &[(Command<'static>, Long, Wanted<'static>)] = &[
 #[test]
 fn long_texts_are_explained(rt: HostRuntime) -> Result<(), Fail> {
     for (command, long, wanted) in TOLD {
-        check_long(&rt, rt.alloc(), *command, *long, *wanted)?;
+        let text = long.text(rt.alloc())?;
+        check_pieces(&rt, rt.alloc(), *command, text.as_bytes(), PIECES, *wanted);
     }
     Ok(())
 }
@@ -225,5 +200,5 @@ fn long_texts_are_explained(rt: HostRuntime) -> Result<(), Fail> {
 /// A reader that fails behind the first piece, among plain lines of requests.
 #[test]
 fn a_failure_behind_the_first_piece(rt: HostRuntime) -> Result<(), Fail> {
-    check_broken(&rt, rt.alloc(), Explain, PLAIN, 150_000)
+    check_broken(&rt, rt.alloc(), Explain, &PLAIN, 150_000)
 }

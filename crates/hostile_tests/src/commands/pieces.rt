@@ -2,16 +2,16 @@
 
 use super::Command::Judge;
 use super::Wanted::{Fault, Text, Unread};
-use super::{Command, Wanted, check, push_number};
-use crate::devices::{Breaking, Giving};
+use super::{Command, Wanted, check};
+use crate::devices::Breaking;
 use std::alloc::{AllocError, Global};
+use std::io::ErrorKind;
 use std::process::Abort;
 use std::sync::Wait;
 use std::test::Fail;
 use std::thread::Threads;
 
 /// A head, lines that are repeated, and a tail.
-#[derive(Clone, Copy)]
 pub(super) struct Long {
     pub(super) head: &'static str,
     pub(super) repeated: &'static str,
@@ -21,7 +21,7 @@ pub(super) struct Long {
 
 impl Long {
     /// The whole text.
-    pub(super) fn text(self, alloc: Global) -> Result<String, AllocError> {
+    pub(super) fn text(&self, alloc: Global) -> Result<String, AllocError> {
         let mut text = String::new(alloc);
         text.push_str(self.head)?;
         for _ in 0..self.times {
@@ -32,41 +32,38 @@ impl Long {
     }
 }
 
-/// The verdict lines of so many reads of a cell that was never written.
-fn zeros(alloc: Global, reads: u32) -> Result<String, AllocError> {
-    let mut lines = String::new(alloc);
-    for number in 0..reads {
-        push_number(&mut lines, "", number + 1, " value 0\n")?;
-    }
-    Ok(lines)
-}
-
-/// How many bytes a reader gives at each read at most.
+/// How many bytes a reader gives the judge at each read at most.
 const PIECES: &[usize] = &[1, 7, 131_072];
 
-/// Of this text the judge does what is wanted, in whatever pieces it comes.
-fn check_pieces<R: Abort + Threads + Wait + Sync>(
+/// The command over this text does what is wanted, in pieces of whichever of these lengths it comes.
+pub(super) fn check_pieces<R: Abort + Threads + Wait + Sync>(
     rt: &R,
     alloc: Global,
+    command: Command<'_>,
     text: &[u8],
+    pieces: &[usize],
     wanted: Wanted<'_>,
 ) {
-    for most in PIECES {
-        let reader = Giving { text, most: *most };
-        check(rt, alloc, Judge, reader, wanted);
+    for most in pieces {
+        let reader = Breaking::into_pieces(text, *most);
+        check(rt, alloc, command, reader, wanted);
     }
 }
 
-/// The text asks for so many reads.
+/// The text asks for so many reads of a cell that was never written.
 fn check_zeros<R: Abort + Threads + Wait + Sync>(
     rt: &R,
     alloc: Global,
-    long: Long,
+    long: &Long,
     reads: u32,
 ) -> Result<(), Fail> {
     let text = long.text(alloc)?;
-    let wanted = zeros(alloc, reads)?;
-    check_pieces(rt, alloc, text.as_bytes(), Text(0, wanted.as_str()));
+    let mut lines = String::new(alloc);
+    for number in 0..reads {
+        write!(lines, "{} value 0\n", number + 1)?;
+    }
+    let wanted = Text(0, lines.as_str());
+    check_pieces(rt, alloc, Judge, text.as_bytes(), PIECES, wanted);
     Ok(())
 }
 
@@ -100,7 +97,7 @@ const READS: &[(Long, u32)] = &[(LATE, 1), (WIDE, 2), (RETURNS, 20_001)];
 #[test]
 fn long_traces(rt: HostRuntime) -> Result<(), Fail> {
     for (long, reads) in READS {
-        check_zeros(&rt, rt.alloc(), *long, *reads)?;
+        check_zeros(&rt, rt.alloc(), long, *reads)?;
     }
     Ok(())
 }
@@ -117,7 +114,7 @@ const FAULTY: Long = Long {
 fn a_fault_behind_the_first_piece(rt: HostRuntime) -> Result<(), Fail> {
     let text = FAULTY.text(rt.alloc())?;
     let wanted = Fault(2, "trace line 20003: BadNesting");
-    check_pieces(&rt, rt.alloc(), text.as_bytes(), wanted);
+    check_pieces(&rt, rt.alloc(), Judge, text.as_bytes(), PIECES, wanted);
     Ok(())
 }
 
@@ -126,20 +123,22 @@ pub(super) fn check_broken<R: Abort + Threads + Wait + Sync>(
     rt: &R,
     alloc: Global,
     command: Command<'_>,
-    long: Long,
+    long: &Long,
     left: u32,
 ) -> Result<(), Fail> {
     let text = long.text(alloc)?;
     let reader = Breaking {
         text: text.as_bytes(),
+        most: 1,
         left,
+        error: ErrorKind::Other,
     };
-    check(rt, alloc, command, reader, Unread(left));
+    check(rt, alloc, command, reader, Unread);
     Ok(())
 }
 
 /// A reader that fails behind the faulty lines, which are 180,035 bytes, is told in place of their fault.
 #[test]
 fn a_failure_behind_a_fault(rt: HostRuntime) -> Result<(), Fail> {
-    check_broken(&rt, rt.alloc(), Judge, FAULTY, 180_035)
+    check_broken(&rt, rt.alloc(), Judge, &FAULTY, 180_035)
 }

@@ -1,7 +1,6 @@
 //! Runs that are recorded, whose trace or report can't be written.
 
-use super::{MOST, Takes, has_ended};
-use crate::devices::Filling;
+use super::{MOST, Takes};
 use std::alloc::Global;
 use std::process::Abort;
 use std::sync::Wait;
@@ -16,36 +15,17 @@ const SHORT_TRACE: &str = "cilk 1\nsync 0 @3\nreturn 0 @3\n";
 const SHORT_REPORT: &str =
     "{\"clean\":true,\"entries\":2,\"memory\":{},\"refusals\":[],\"schedules\":\"clean for every schedule\"}\n";
 
-/// What a run that is recorded answers, what it wrote, and how its writers fared.
-struct Recorded {
-    answer: Result<u8, CliFault>,
-    trace: Filling,
-    trace_failed: bool,
-    trace_delivered: bool,
-    output: Filling,
-    output_failed: bool,
-}
-
-impl Drop for Recorded {
-    fn drop(self) {
-        let Recorded {
-            answer: _,
-            trace: _,
-            trace_failed: _,
-            trace_delivered: _,
-            output: _,
-            output_failed: _,
-        } = self;
-    }
-}
-
-/// Runs SHORT by two workers, and writes the trace of the run and its report to writers that take what is written so.
-fn run_recorded<R: Threads + Wait + Sync>(
+/// Runs SHORT by two workers, and writes the trace of the run and its report to writers that take what is written so. That of the trace
+/// takes 30 calls, one for each byte, and the flush; that of the report takes 93. Where they go along with fewer calls it is told, and behind
+/// a trace that is cut no report is written.
+fn check_recorded<R: Abort + Threads + Wait + Sync>(
     rt: &R,
     alloc: Global,
     of_trace: Takes,
     of_report: Takes,
-) -> Recorded {
+) {
+    let is_trace_cut = of_trace.calls() < 30;
+    let is_report_cut = !is_trace_cut && of_report.calls() < 93;
     let mut program = Watched::new(SHORT.as_bytes());
     let mut trace = Watched::new(of_trace.writer(alloc));
     let mut output = Watched::new(of_report.writer(alloc));
@@ -59,64 +39,30 @@ fn run_recorded<R: Threads + Wait + Sync>(
         &mut output,
         MOST,
     );
-    Recorded {
-        answer,
-        trace_failed: trace.failed(),
-        trace_delivered: trace.is_delivered(),
-        trace: trace.into_inner(),
-        output_failed: output.failed(),
-        output: output.into_inner(),
-    }
-}
-
-/// Whether it has ended, no writer has failed, and its trace and its report are written.
-fn is_whole(run: &Recorded) -> bool {
-    has_ended(&run.answer, 0)
-        && run.trace_delivered
-        && !run.trace_failed
-        && !run.output_failed
-        && run.trace.held.as_slice() == SHORT_TRACE.as_bytes()
-        && run.output.held.as_slice() == SHORT_REPORT.as_bytes()
-}
-
-/// Whether the writer of the trace went along with too few calls, which is told, and no report is written.
-fn is_trace_cut(run: &Recorded) -> bool {
-    matches!(run.answer, Err(CliFault::Unwritten))
-        && run.trace_failed
-        && !run.trace_delivered
-        && run.output.held.is_empty()
-        && !run.output_failed
-        && SHORT_TRACE
-            .as_bytes()
-            .starts_with(run.trace.held.as_slice())
-}
-
-/// Whether the writer of the report went along with too few calls, which is told, and the trace stands.
-fn is_report_cut(run: &Recorded) -> bool {
-    matches!(run.answer, Err(CliFault::Write))
-        && run.trace_delivered
-        && run.output_failed
-        && run.trace.held.as_slice() == SHORT_TRACE.as_bytes()
-}
-
-/// The run is what is wanted of writers that take so. That of the trace takes 30 calls, one for each byte, and the flush; that of the report
-/// takes 93.
-fn check_recorded<R: Abort + Threads + Wait + Sync>(
-    rt: &R,
-    alloc: Global,
-    of_trace: Takes,
-    of_report: Takes,
-) {
-    let run = run_recorded(rt, alloc, of_trace, of_report);
-    let is_told = if of_trace.calls() < 30 {
-        is_trace_cut(&run)
-    } else if of_report.calls() < 93 {
-        is_report_cut(&run)
-    } else {
-        is_whole(&run)
-    };
-    let trace = run.trace.held.as_slice();
-    assert!(rt; is_told, "it wrote {trace:?}");
+    assert!(rt;
+        match answer {
+            Ok(status) => status == 0 && !is_trace_cut && !is_report_cut,
+            Err(CliFault::Unwritten) => is_trace_cut,
+            Err(CliFault::Write) => is_report_cut,
+            Err(_) => false,
+        }
+    );
+    assert!(rt; trace.failed() == is_trace_cut && trace.is_delivered() != is_trace_cut);
+    assert!(rt; output.failed() == is_report_cut);
+    let trace = trace.into_inner();
+    let written = trace.held.as_slice();
+    let is_begun = SHORT_TRACE.as_bytes().starts_with(written);
+    assert!(rt;
+        is_begun && (is_trace_cut || written.len() == SHORT_TRACE.len()),
+        "it wrote {written:?}"
+    );
+    let output = output.into_inner();
+    let written = output.held.as_slice();
+    let is_reported = written == SHORT_REPORT.as_bytes();
+    assert!(rt;
+        is_report_cut || is_trace_cut && written.is_empty() || !is_trace_cut && is_reported,
+        "it wrote {written:?}"
+    );
 }
 
 #[test]

@@ -18,12 +18,8 @@ const STOPPED: Reply = Reply::Illegal(GateFault::Stopped);
 
 const MEMORY: Reply = Reply::Illegal(GateFault::Memory);
 
-/// Replies, and their status.
-const STATUSES: &[(&[Reply], u8)] = &[(&[UNSET, STOPPED, MEMORY], 3), (&[UNSET], 1)];
-
 #[test]
 fn statuses_of_replies(rt: HostRuntime) {
-    for (replies, status) in STATUSES {
-        assert!(rt; status_of(replies) == *status);
-    }
+    assert!(rt; status_of(&[UNSET, STOPPED, MEMORY]) == 3);
+    assert!(rt; status_of(&[UNSET]) == 1);
 }

@@ -1,8 +1,6 @@
 //! Growths of gates, of lists of replies, and of verdict lines.
 
-ghost use Rattle.std.specs.Prelude.{◌≡◌, length, IfOk};
-
-use super::{Heap, lacks_text};
+use super::{Heap, Told, is_text, note};
 use crate::refusing::Refusing;
 use model_accesses::{Kind, Rule};
 use race_gate::{Answer, Entry, Gate, GateFault, Receipt, Reply, judge_all};
@@ -11,43 +9,6 @@ use sp_labels::Spawned;
 use std::alloc::{AllocError, Global};
 use text_words::{Act, Monoid, Monoids, Request, Shape};
 use verdict_lines::verdict_lines;
-
-/// A call of a gate, or what is made of its replies.
-#[derive(Clone, Copy)]
-pub(super) enum Call {
-    New,
-    Judge,
-    JudgeAll,
-    Tell,
-}
-
-pub(super) fn is_refused(alloc: Global, heap: &Heap, number: u64, call: Call) -> Option<bool> {
-    let is_new = matches!(call, Call::New);
-    match open_gate(heap, if is_new { number } else { 0 }) {
-        Some(Ok(mut gate)) => does(alloc, heap, number, call, &mut gate),
-        Some(Err(AllocError)) => is_new.then_some(true),
-        None => None,
-    }
-}
-
-/// Makes the call beside a gate for which no growth was refused.
-fn does(
-    alloc: Global,
-    heap: &Heap,
-    number: u64,
-    call: Call,
-    gate: &mut Gate<&Heap>,
-) -> Option<bool> {
-    if !matches!(call, Call::New) {
-        heap.refuse(number);
-    }
-    match call {
-        Call::New => keeps(gate, &[], 0).then_some(false),
-        Call::Judge => asks_all(gate),
-        Call::JudgeAll => replies_to_all(alloc, heap, gate),
-        Call::Tell => lacks_text(verdict_lines(heap, REPLIES), LINES),
-    }
-}
 
 /// What strands ask of one cell and one reducer, which sums, and what they are answered: a put, an update by
 /// a child, a get that has other peers than the put, one that has not, and a write and a read round a call.
@@ -92,27 +53,23 @@ fn entries() -> &'static [Entry] {
     ENTRIES
 }
 
-/// One cell and one reducer.
-fn shape(heap: &Heap) -> Result<Shape<&Heap>, AllocError>
-    ensures cells { IfOk result (λ shape. shape.cells ≡ 1) }
-    ensures reducers { IfOk result (λ shape. length shape.monoids ≡ 1) }
-{
-    let monoids = Vec::from_slice(heap, &[Monoid::Sum])?;
-    Ok(Shape {
+/// A new gate of one cell and one reducer.
+fn open_gate<'h>(
+    alloc: Global,
+    heap: &'h Heap,
+    told: &mut Told,
+) -> Result<Gate<&'h Heap>, AllocError> {
+    let monoids = Vec::from_slice(alloc, &[Monoid::Sum])?;
+    let shape = Shape {
         cells: 1,
         monoids: Monoids::new(monoids),
-    })
-}
-
-/// A gate of which the growth of this number is refused, or none where that is 0, or None where there is no memory for its shape.
-fn open_gate(heap: &Heap, number: u64) -> Option<Result<Gate<&Heap>, AllocError>> {
-    match shape(heap) {
-        Ok(shape) => {
-            heap.refuse(number);
-            Some(Gate::new(heap, &shape, 1_000))
-        }
-        Err(AllocError) => None,
-    }
+    };
+    twice!(
+        told,
+        "Gate::new",
+        AllocError,
+        Gate::new(heap, &shape, 1_000)
+    )
 }
 
 /// The gate has these entries, its cell holds this number, and it was not stopped.
@@ -134,42 +91,36 @@ fn ask(gate: &mut Gate<&Heap>, request: Request) -> Reply {
     }
 }
 
-/// The gate has the entries before this one, by its number, and its cell holds what they left.
-fn keeps_before(gate: &Gate<&Heap>, number: u32) -> bool {
-    let entries = entries();
-    let count = (number.saturating_sub(1) as usize).min(entries.len());
-    let cell = if number > 8 { 4 } else { 0 };
-    keeps(gate, entries.split_at(count).0, cell)
-}
-
-/// The gate answers the request of the entry of this number so, once more where there was no memory. Whether there was none.
-fn asks(gate: &mut Gate<&Heap>, number: u32, entry: Entry) -> Option<bool> {
+/// The gate answers the request of the entry of this number so. Where there is no memory, it has the entries before this one still, and its
+/// cell holds what they left.
+fn asks(gate: &mut Gate<&Heap>, number: u32, entry: Entry, told: &mut Told) -> bool {
     let Entry { request, answer } = entry;
-    let wanted = Reply::Done(Receipt {
+    let mut found = ask(gate, request);
+    if note(told, "Gate::judge", found == WANTING) {
+        let entries = entries();
+        let count = (number.saturating_sub(1) as usize).min(entries.len());
+        let cell = if number > 8 { 4 } else { 0 };
+        if keeps(gate, entries.split_at(count).0, cell) {
+            found = ask(gate, request);
+        }
+    }
+    let receipt = Receipt {
         number,
         request,
         answer,
-    });
-    let found = ask(gate, request);
-    if found == WANTING {
-        (keeps_before(gate, number) && ask(gate, request) == wanted).then_some(true)
-    } else {
-        (found == wanted).then_some(false)
-    }
+    };
+    found == Reply::Done(receipt)
 }
 
-/// The gate answers all requests. Whether one of them found no memory at first.
-fn asks_all(gate: &mut Gate<&Heap>) -> Option<bool> {
-    let mut is_refused = false;
+/// The gate answers all requests.
+fn asks_all(gate: &mut Gate<&Heap>, told: &mut Told) -> bool {
+    let mut is_right = keeps(gate, &[], 0);
     let mut number = 0u32;
     for entry in entries() {
         number = number.saturating_add(1);
-        match asks(gate, number, *entry) {
-            Some(is_wanting) => is_refused |= is_wanting,
-            None => return None,
-        }
+        is_right &= asks(gate, number, *entry, told);
     }
-    keeps(gate, entries(), 4).then_some(is_refused)
+    is_right && keeps(gate, entries(), 4)
 }
 
 /// The requests of the entries.
@@ -204,39 +155,56 @@ fn replies_alike(gate: &mut Gate<&Heap>, replies: &[Reply]) -> Option<usize> {
     (replies.len() == REQUESTS.len()).then_some(left_out)
 }
 
-/// The gate replies to all requests, or, where one of them found no memory, as another gate that was not asked it, which keeps the same.
-/// Whether one found none.
-fn are_replies(gate: &Gate<&Heap>, other: &mut Gate<&Heap>, replies: &[Reply]) -> Option<bool> {
-    let left_out = replies_alike(other, replies);
-    if !(gate.history() == other.history() && gate.memory() == other.memory()) {
-        return None;
-    }
-    match left_out {
-        Some(0) => keeps(gate, entries(), 4).then_some(false),
-        Some(1) => Some(true),
-        _ => None,
-    }
-}
-
-/// So it is where the other gate stands over a heap of its own.
-fn compare_replies(alloc: Global, gate: &Gate<&Heap>, replies: &[Reply]) -> Option<bool> {
+/// The gate has replied to all requests, or, where one of them found no memory, as another gate that was not asked it, which keeps the same.
+fn are_replies(alloc: Global, gate: &Gate<&Heap>, replies: &[Reply], told: &mut Told) -> bool {
     let spare = Refusing::new(alloc);
-    match open_gate(&spare, 0) {
-        Some(Ok(mut other)) => are_replies(gate, &mut other, replies),
-        _ => None,
+    match open_gate(alloc, &spare, told) {
+        Ok(mut other) => {
+            let left_out = replies_alike(&mut other, replies);
+            let is_wanting = note(told, "judge_all", left_out == Some(1));
+            gate.history() == other.history()
+                && gate.memory() == other.memory()
+                && (is_wanting || left_out == Some(0) && keeps(gate, entries(), 4))
+        }
+        Err(AllocError) => false,
     }
 }
 
-/// The gate, which has no entry, gets them all where it is asked once more.
-fn replies_at_last(heap: &Heap, gate: &mut Gate<&Heap>) -> bool {
-    keeps(gate, &[], 0) && judge_all(gate, heap, REQUESTS).is_ok() && keeps(gate, entries(), 4)
+/// The gate replies to the list of requests, which it is asked once more where there was no room for the replies, and has no entry then.
+fn replies_to_all(alloc: Global, heap: &Heap, gate: &mut Gate<&Heap>, told: &mut Told) -> bool {
+    let replies = twice!(
+        told,
+        "judge_all",
+        AllocError,
+        judge_all(gate, heap, REQUESTS),
+        keeps(gate, &[], 0)
+    );
+    match replies {
+        Ok(replies) => are_replies(alloc, gate, replies.as_slice(), told),
+        Err(AllocError) => false,
+    }
 }
 
-/// The gate replies to the list of requests, once more where there was no room for the replies. Whether there was no memory.
-fn replies_to_all(alloc: Global, heap: &Heap, gate: &mut Gate<&Heap>) -> Option<bool> {
-    match judge_all(gate, heap, REQUESTS) {
-        Ok(replies) => compare_replies(alloc, gate, replies.as_slice()),
-        Err(AllocError) => replies_at_last(heap, gate).then_some(true),
+/// Asks a new gate the requests, one by one, or in a list, and writes verdict lines.
+pub(super) fn call_gate(alloc: Global, heap: &Heap, is_list: bool, told: &mut Told) -> bool {
+    match open_gate(alloc, heap, told) {
+        Ok(mut gate) => {
+            if is_list {
+                replies_to_all(alloc, heap, &mut gate, told)
+                    && is_text(
+                        &twice!(
+                            told,
+                            "verdict_lines",
+                            AllocError,
+                            verdict_lines(heap, REPLIES)
+                        ),
+                        LINES,
+                    )
+            } else {
+                asks_all(&mut gate, told)
+            }
+        }
+        Err(AllocError) => false,
     }
 }
 

@@ -1,41 +1,8 @@
 //! Growths of strands.
 
-use super::Heap;
+use super::{Heap, Told, note};
 use sp_labels::{Returned, SpFault, Spawned, Strands};
 use std::alloc::AllocError;
-
-/// A call of strands.
-#[derive(Clone, Copy)]
-pub(super) enum Call {
-    New,
-    Reserve,
-    Hint,
-    Spawn,
-    Function,
-}
-
-pub(super) fn is_refused(heap: &Heap, number: u64, call: Call) -> Option<bool> {
-    let is_new = matches!(call, Call::New);
-    heap.refuse(if is_new { number } else { 0 });
-    match Strands::new(heap) {
-        Ok(mut strands) => asks(heap, number, call, &mut strands),
-        Err(AllocError) => is_new.then_some(true),
-    }
-}
-
-/// Asks strands of which no growth was refused.
-fn asks(heap: &Heap, number: u64, call: Call, strands: &mut Strands<&Heap>) -> Option<bool> {
-    if !matches!(call, Call::New) {
-        heap.refuse(number);
-    }
-    match call {
-        Call::New => stand(strands, false, false).then_some(false),
-        Call::Reserve => reserve(strands),
-        Call::Hint => hint(heap, strands),
-        Call::Spawn => spawn(strands),
-        Call::Function => call_function(strands),
-    }
-}
 
 /// The strand has begun or not, and runs or not.
 fn stands(strands: &Strands<&Heap>, strand: u32, begun: bool, running: bool) -> bool {
@@ -50,27 +17,23 @@ fn stand(strands: &Strands<&Heap>, has_spawned: bool, has_room: bool) -> bool {
         && strands.has_room() == has_room
 }
 
-/// There is no room for an event, and there is where it is asked for now.
-fn gets_room(strands: &mut Strands<&Heap>) -> bool {
-    stand(strands, false, false) && strands.reserve_event().is_ok() && stand(strands, false, true)
-}
-
-fn reserve(strands: &mut Strands<&Heap>) -> Option<bool> {
-    match strands.reserve_event() {
-        Ok(()) => stand(strands, false, true).then_some(false),
-        Err(SpFault::Memory) => gets_room(strands).then_some(true),
-        Err(_) => None,
+/// Asks new strands for room, behind a hint, whose refused growth is no fault, or with none.
+fn reserve(heap: &Heap, strands: &mut Strands<&Heap>, has_hint: bool, told: &mut Told) -> bool {
+    if has_hint {
+        let was_refused = heap.has_refused();
+        strands.make_room(2);
+        let is_refused = heap.has_refused() && !was_refused;
+        note(told, "Strands::make_room", is_refused);
     }
-}
-
-/// A hint, whose refused growth is no fault. No growth behind it is refused.
-fn hint(heap: &Heap, strands: &mut Strands<&Heap>) -> Option<bool> {
-    strands.make_room(2);
-    let is_refused = heap.has_refused();
-    heap.refuse(0);
-    let is_right = gets_room(strands);
-    heap.refuse(if is_refused { 0 } else { 1 });
-    is_right.then_some(is_refused)
+    let was_new = stand(strands, false, false);
+    let reserved = twice!(
+        told,
+        "Strands::reserve_event",
+        SpFault::Memory,
+        strands.reserve_event(),
+        stand(strands, false, false)
+    );
+    was_new && reserved.is_ok() && stand(strands, false, true)
 }
 
 const SPLIT: Spawned = Spawned {
@@ -80,30 +43,49 @@ const SPLIT: Spawned = Spawned {
     first: true,
 };
 
-/// Strand 0 spawns, which is answered Memory or splits it.
-fn spawns(strands: &mut Strands<&Heap>) -> Option<bool> {
-    match strands.spawn(0) {
-        Ok(spawned) => (spawned == SPLIT && stand(strands, true, false)).then_some(false),
-        Err(SpFault::Memory) => stand(strands, false, false).then_some(true),
-        Err(_) => None,
-    }
+/// Strand 0 spawns.
+fn spawn(strands: &mut Strands<&Heap>, told: &mut Told) -> bool {
+    let spawned = twice!(
+        told,
+        "Strands::spawn",
+        SpFault::Memory,
+        strands.spawn(0),
+        stand(strands, false, false)
+    );
+    spawned == Ok(SPLIT) && stand(strands, true, false)
 }
 
-/// Strand 0 spawns, once more where there was no memory.
-fn spawn(strands: &mut Strands<&Heap>) -> Option<bool> {
-    match spawns(strands) {
-        Some(true) => matches!(spawns(strands), Some(false)).then_some(true),
-        found => found,
-    }
+/// Strand 0 calls once, so that it returns to where it was, and is finished where it returns again.
+fn call_function(strands: &mut Strands<&Heap>, told: &mut Told) -> bool {
+    let called = twice!(
+        told,
+        "Strands::call",
+        SpFault::Memory,
+        strands.call(0),
+        stand(strands, false, false)
+    );
+    called.is_ok()
+        && strands.ret(0) == Ok(Returned::Resumed)
+        && stand(strands, false, false)
+        && strands.ret(0) == Ok(Returned::Finished)
 }
 
-/// Strand 0 calls, and returns to where it was, or it is finished where it could not call.
-fn call_function(strands: &mut Strands<&Heap>) -> Option<bool> {
-    let is_refused = matches!(strands.call(0), Err(SpFault::Memory));
-    let is_right = match strands.ret(0) {
-        Ok(Returned::Finished) => is_refused,
-        Ok(Returned::Resumed) => !is_refused && stand(strands, false, false),
-        _ => false,
-    };
-    is_right.then_some(is_refused)
+/// Asks four new ones for room, to spawn and to call.
+pub(super) fn call_strands(heap: &Heap, told: &mut Told) -> bool {
+    let mut is_right = true;
+    for turn in 0..4u32 {
+        is_right &= match twice!(told, "Strands::new", AllocError, Strands::new(heap)) {
+            Ok(mut strands) => {
+                stand(&strands, false, false)
+                    && match turn {
+                        0 => reserve(heap, &mut strands, false, told),
+                        1 => reserve(heap, &mut strands, true, told),
+                        2 => spawn(&mut strands, told),
+                        _ => call_function(&mut strands, told),
+                    }
+            }
+            Err(AllocError) => false,
+        };
+    }
+    is_right
 }

@@ -1,18 +1,9 @@
 //! Growths of traces and of their texts.
 
-use super::{Heap, lacks_shape, lacks_text};
+use super::{Heap, Told, is_text};
 use std::alloc::AllocError;
 use text_words::{Monoid, TextFault};
 use trace_text::{Trace, cell_name};
-
-/// A call of a trace.
-#[derive(Clone, Copy)]
-pub(super) enum Call {
-    Parse,
-    Print,
-    Shape,
-    Name,
-}
 
 /// A trace with three cells and two reducers, in which something is asked for on five lines, the last with the line of a program.
 const TEXT: &[u8] =
@@ -21,42 +12,35 @@ const TEXT: &[u8] =
 /// Its reducers.
 const MONOIDS: &[Monoid] = &[Monoid::Sum, Monoid::Min];
 
-pub(super) fn is_refused(heap: &Heap, number: u64, call: Call) -> Option<bool> {
-    let is_new = matches!(call, Call::Parse);
-    heap.refuse(if is_new { number } else { 0 });
-    match Trace::parse(heap, TEXT) {
-        Ok(trace) => tells(heap, number, call, &trace),
-        Err(TextFault::Memory) => is_new.then_some(true),
-        Err(_) => None,
+/// The trace tells its shape, and then the name of its last cell.
+fn tells_shape(heap: &Heap, trace: &Trace<&Heap>, told: &mut Told) -> bool {
+    match twice!(told, "Trace::shape", AllocError, trace.shape(heap)) {
+        Ok(shape) => {
+            if shape.cells != 3 || shape.monoids.as_slice() != MONOIDS {
+                return false;
+            }
+            let mems = trace.mems.as_slice();
+            match twice!(told, "cell_name", AllocError, cell_name(heap, mems, 2)) {
+                Ok(name) => name.as_str() == "a[1]",
+                Err(AllocError) => false,
+            }
+        }
+        Err(AllocError) => false,
     }
 }
 
-/// Asks a trace for which no growth was refused.
-fn tells(heap: &Heap, number: u64, call: Call, trace: &Trace<&Heap>) -> Option<bool> {
-    if !matches!(call, Call::Parse) {
-        heap.refuse(number);
-    }
-    match call {
-        Call::Parse => (trace.lines.len() == 5).then_some(false),
-        Call::Print => lacks_text(trace.print(heap), TEXT),
-        Call::Shape => lacks_shape(trace.shape(heap), 3, MONOIDS),
-        Call::Name => name_cell(heap, number, trace),
-    }
-}
-
-/// The trace has three cells, and tells the last one's name, of which a growth is refused.
-fn name_cell(heap: &Heap, number: u64, trace: &Trace<&Heap>) -> Option<bool> {
-    heap.refuse(0);
-    let cells = match trace.shape(heap) {
-        Ok(shape) => shape.cells,
-        Err(AllocError) => return None,
-    };
-    if cells != 3 {
-        return None;
-    }
-    heap.refuse(number);
-    match cell_name(heap, trace.mems.as_slice(), 2) {
-        Ok(name) => (name.as_str().as_bytes() == "a[1]".as_bytes()).then_some(false),
-        Err(AllocError) => Some(true),
+pub(super) fn call_trace(heap: &Heap, told: &mut Told) -> bool {
+    let parsed = twice!(
+        told,
+        "Trace::parse",
+        TextFault::Memory,
+        Trace::parse(heap, TEXT)
+    );
+    match parsed {
+        Ok(trace) => {
+            let printed = twice!(told, "Trace::print", AllocError, trace.print(heap));
+            trace.lines.len() == 5 && is_text(&printed, TEXT) && tells_shape(heap, &trace, told)
+        }
+        Err(_) => false,
     }
 }
