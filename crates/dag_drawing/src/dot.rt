@@ -7,24 +7,25 @@ ghost use Rattle.dag_drawing.specs.Texts.{escape, escaped, kind_word, edge_text}
 ghost use Rattle.dag_drawing.specs.Labels.{naming_of, node_lines};
 ghost use Rattle.dag_drawing.specs.Dots.{line_text, box_text, boxes_text, arc_text, heading_text, dot_text};
 
+use crate::blanks::push_filled;
 use crate::drawing::{Access, Drawing, Edge, EdgeKind, Race};
-use crate::drawing_text::DrawingText;
 use crate::labels::{Names, node_lines, own_of, race_label};
 use std::alloc::{AllocError, Allocator};
+use text_buffers::TextBuilder;
 
 /// Adds a byte as it stands between quotation marks.
-fn push_escape<A: Allocator>(text: &mut DrawingText<A>, byte: u8)
+fn push_escape<A: Allocator>(text: &mut TextBuilder<A>, byte: u8)
     ensures { Adds text.old (escape byte) text.new }
 {
     if byte == b'"' || byte == b'\\' {
         text.push_bytes(&[b'\\', byte]);
     } else {
-        text.push_bytes(&[byte]);
+        text.push_byte(byte);
     }
 }
 
 /// Adds text as it stands between quotation marks.
-fn push_escaped<A: Allocator>(text: &mut DrawingText<A>, name: &str)
+fn push_escaped<A: Allocator>(text: &mut TextBuilder<A>, name: &str)
     ensures { Adds text.old (escaped name.now) text.new }
 {
     for byte in name.as_bytes() {
@@ -33,7 +34,7 @@ fn push_escaped<A: Allocator>(text: &mut DrawingText<A>, name: &str)
 }
 
 /// Adds the lines of a label.
-fn push_lines<A: Allocator>(text: &mut DrawingText<A>, lines: &[String<A>])
+fn push_lines<A: Allocator>(text: &mut TextBuilder<A>, lines: &[String<A>])
     ensures { Adds text.old (flat_map line_text (map string_bytes lines.now)) text.new }
 {
     for line in lines {
@@ -45,7 +46,7 @@ fn push_lines<A: Allocator>(text: &mut DrawingText<A>, lines: &[String<A>])
 /// Adds a strand with its accesses.
 fn push_box<A: Allocator + Copy>(
     alloc: A,
-    text: &mut DrawingText<A>,
+    text: &mut TextBuilder<A>,
     names: &Names<'_, A>,
     strand: usize,
     own: &[Access],
@@ -56,7 +57,7 @@ fn push_box<A: Allocator + Copy>(
     let Ok(lines) = node_lines(alloc, names, strand, own) else {
         return text.fail();
     };
-    text.push_filled("  # [label=\"", &[strand as u64]);
+    push_filled(text, "  # [label=\"", &[strand as u64]);
     push_lines(text, lines.as_slice());
     text.push_words("\"];\n");
 }
@@ -64,7 +65,7 @@ fn push_box<A: Allocator + Copy>(
 /// Adds strands, each with its own of the accesses.
 fn push_boxes<A: Allocator + Copy>(
     alloc: A,
-    text: &mut DrawingText<A>,
+    text: &mut TextBuilder<A>,
     names: &Names<'_, A>,
     strands: &[usize],
     accesses: &[Access],
@@ -92,12 +93,12 @@ pub fn word_of(kind: EdgeKind) -> &'static str
 }
 
 /// Adds edges.
-fn push_edges<A: Allocator>(text: &mut DrawingText<A>, edges: &[Edge])
+fn push_edges<A: Allocator>(text: &mut TextBuilder<A>, edges: &[Edge])
     ensures { Adds text.old (flat_map edge_text edges.now) text.new }
 {
     for edge in edges {
         let ends = [u64::from(edge.from), u64::from(edge.to)];
-        text.push_filled("  # -> # [label=\"", &ends);
+        push_filled(text, "  # -> # [label=\"", &ends);
         text.push_words(word_of(edge.kind));
         text.push_words("\"];\n");
     }
@@ -106,7 +107,7 @@ fn push_edges<A: Allocator>(text: &mut DrawingText<A>, edges: &[Edge])
 /// Adds a race.
 fn push_race<A: Allocator + Copy>(
     alloc: A,
-    text: &mut DrawingText<A>,
+    text: &mut TextBuilder<A>,
     names: &Names<'_, A>,
     race: &Race,
 )
@@ -120,7 +121,7 @@ fn push_race<A: Allocator + Copy>(
         u64::from(race.witness.strand),
         u64::from(race.request.strand),
     ];
-    text.push_filled("  # -> # [label=\"", &ends);
+    push_filled(text, "  # -> # [label=\"", &ends);
     push_escaped(text, label.as_str());
     text.push_words("\", color=red, fontcolor=red, constraint=false];\n");
 }
@@ -128,7 +129,7 @@ fn push_race<A: Allocator + Copy>(
 /// Adds races.
 fn push_races<A: Allocator + Copy>(
     alloc: A,
-    text: &mut DrawingText<A>,
+    text: &mut TextBuilder<A>,
     names: &Names<'_, A>,
     races: &[Race],
 )
@@ -141,7 +142,7 @@ fn push_races<A: Allocator + Copy>(
 }
 
 /// Adds what was recorded.
-fn push_heading<A: Allocator>(text: &mut DrawingText<A>, runs: &[String<A>])
+fn push_heading<A: Allocator>(text: &mut TextBuilder<A>, runs: &[String<A>])
     ensures { Adds text.old (heading_text (map string_bytes runs.now)) text.new }
 {
     if runs.is_empty() {
@@ -162,7 +163,7 @@ pub fn dot_text<A: Allocator + Copy>(
     requires numbered { IsTrue (is_numbered 0 names.now.mems.now) }
     ensures { IfOk result (λ text. text.items ≡ dot_text (naming_of names.now) drawing.now) }
 {
-    let mut text = DrawingText::new(alloc);
+    let mut text = TextBuilder::new(alloc);
     text.push_words("digraph trace {\n");
     push_heading(&mut text, names.notes.runs());
     push_boxes(

@@ -9,9 +9,9 @@
 //! `svg_text` of `specs/Pictures` say.
 #![tactic(auto)]
 
+mod blanks;
 mod dot;
 mod drawing;
-mod drawing_text;
 mod form;
 mod labels;
 pub mod laws;

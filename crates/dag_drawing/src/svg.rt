@@ -9,15 +9,16 @@ ghost use Rattle.dag_drawing.specs.Plans.{plan_of};
 ghost use Rattle.dag_drawing.specs.Pictures.{xml_byte, xml_text, cut_text, lines_text, edge_text, node_text, nodes_text};
 ghost use Rattle.dag_drawing.specs.Pictures.{race_text, races_text, style_text, head_text, title_text, svg_text};
 
+use crate::blanks::push_filled;
 use crate::dot::word_of;
 use crate::drawing::{Access, Drawing, Edge, Race};
-use crate::drawing_text::DrawingText;
 use crate::labels::{Names, node_lines, own_of, race_label};
 use crate::plan::{
     Layout, MOST_BOX_LINES, MOST_CHARACTERS, MOST_TITLE_CHARACTERS, MOST_TITLE_LINES, at_most,
     layout_of,
 };
 use std::alloc::{AllocError, Allocator};
+use text_buffers::TextBuilder;
 
 /// What a byte stands as in XML, where not as itself.
 fn xml_word(byte: u8) -> Option<&'static str>
@@ -35,19 +36,19 @@ fn xml_word(byte: u8) -> Option<&'static str>
 }
 
 /// Adds bytes as they stand in XML.
-fn push_xml<A: Allocator>(text: &mut DrawingText<A>, bytes: &[u8])
+fn push_xml<A: Allocator>(text: &mut TextBuilder<A>, bytes: &[u8])
     ensures { Adds text.old (xml_text bytes.now) text.new }
 {
     for byte in bytes {
         match xml_word(*byte) {
             Some(word) => text.push_words(word),
-            None => text.push_bytes(&[*byte]),
+            None => text.push_byte(*byte),
         }
     }
 }
 
 /// Adds a line, which is cut where it is longer than this.
-fn push_cut<A: Allocator>(text: &mut DrawingText<A>, most: u16, line: &str)
+fn push_cut<A: Allocator>(text: &mut TextBuilder<A>, most: u16, line: &str)
     ensures { Adds text.old (cut_text most line.now) text.new }
 {
     let bytes = line.as_bytes();
@@ -61,18 +62,18 @@ fn push_cut<A: Allocator>(text: &mut DrawingText<A>, most: u16, line: &str)
 }
 
 /// Adds lines, one below the other.
-fn push_lines<A: Allocator>(text: &mut DrawingText<A>, most: u16, left: u64, lines: &[String<A>])
+fn push_lines<A: Allocator>(text: &mut TextBuilder<A>, most: u16, left: u64, lines: &[String<A>])
     ensures { Adds text.old (lines_text most left (map string_bytes lines.now)) text.new }
 {
     for line in lines {
-        text.push_filled("<tspan x=\"#\" dy=\"16\">", &[left]);
+        push_filled(text, "<tspan x=\"#\" dy=\"16\">", &[left]);
         push_cut(text, most, line.as_str());
         text.push_words("</tspan>");
     }
 }
 
 /// Adds edges.
-fn push_edges<A: Allocator>(text: &mut DrawingText<A>, layout: &Layout<A>, edges: &[Edge])
+fn push_edges<A: Allocator>(text: &mut TextBuilder<A>, layout: &Layout<A>, edges: &[Edge])
     ensures { Adds text.old (flat_map (edge_text (plan_of layout.now)) edges.now) text.new }
 {
     for edge in edges {
@@ -80,7 +81,8 @@ fn push_edges<A: Allocator>(text: &mut DrawingText<A>, layout: &Layout<A>, edges
         let to = edge.to as usize;
         text.push_words("<line class=\"");
         text.push_words(word_of(edge.kind));
-        text.push_filled(
+        push_filled(
+            text,
             "\" data-from=\"#\" data-to=\"#\" x1=\"#\" y1=\"#\" x2=\"#\" y2=\"#\"/>\n",
             &[
                 from as u64,
@@ -97,7 +99,7 @@ fn push_edges<A: Allocator>(text: &mut DrawingText<A>, layout: &Layout<A>, edges
 /// Adds a strand with its accesses.
 fn push_node<A: Allocator + Copy>(
     alloc: A,
-    text: &mut DrawingText<A>,
+    text: &mut TextBuilder<A>,
     layout: &Layout<A>,
     names: &Names<'_, A>,
     strand: usize,
@@ -114,7 +116,8 @@ fn push_node<A: Allocator + Copy>(
     let top = layout.top(strand);
     let width = 2 * u64::from(layout.measures.half);
     let height = 16 * u64::from(at_most(MOST_BOX_LINES, lines.len())) + 8;
-    text.push_filled(
+    push_filled(
+        text,
         "<g id=\"strand-#\">\n<rect x=\"#\" y=\"#\" width=\"#\" height=\"#\"/>\n<text y=\"#\">",
         &[strand as u64, left, top, width, height, top],
     );
@@ -125,7 +128,7 @@ fn push_node<A: Allocator + Copy>(
 /// Adds strands, each with its own of the accesses.
 fn push_nodes<A: Allocator + Copy>(
     alloc: A,
-    text: &mut DrawingText<A>,
+    text: &mut TextBuilder<A>,
     layout: &Layout<A>,
     names: &Names<'_, A>,
     strands: &[usize],
@@ -145,7 +148,7 @@ fn push_nodes<A: Allocator + Copy>(
 /// Adds a race, and in the middle of its arc what is written there. The number decides how high the arc rises.
 fn push_race<A: Allocator + Copy>(
     alloc: A,
-    text: &mut DrawingText<A>,
+    text: &mut TextBuilder<A>,
     layout: &Layout<A>,
     names: &Names<'_, A>,
     number: usize,
@@ -164,7 +167,8 @@ fn push_race<A: Allocator + Copy>(
     let other_x = layout.middle(to);
     let other_y = layout.top(to);
     let rise = 24 + 12 * (number % 5) as u64;
-    text.push_filled(
+    push_filled(
+        text,
         "<g class=\"race\" data-from=\"#\" data-to=\"#\">\n<path d=\"M # # C # # # # # #\"/>\n<text x=\"#\" y=\"#\">",
         &[
             from as u64,
@@ -188,7 +192,7 @@ fn push_race<A: Allocator + Copy>(
 /// Adds races.
 fn push_races<A: Allocator + Copy>(
     alloc: A,
-    text: &mut DrawingText<A>,
+    text: &mut TextBuilder<A>,
     layout: &Layout<A>,
     names: &Names<'_, A>,
     races: &[Race],
@@ -209,10 +213,11 @@ fn style() -> &'static str
 }
 
 /// Adds the head of a picture of this width and height.
-fn push_head<A: Allocator>(text: &mut DrawingText<A>, width: u64, height: u64)
+fn push_head<A: Allocator>(text: &mut TextBuilder<A>, width: u64, height: u64)
     ensures { Adds text.old (head_text width height) text.new }
 {
-    text.push_filled(
+    push_filled(
+        text,
         "<svg xmlns=\"http://www.w3.org/2000/svg\" width=\"#\" height=\"#\" viewBox=\"0 0 # #\">\n",
         &[width, height, width, height],
     );
@@ -220,7 +225,7 @@ fn push_head<A: Allocator>(text: &mut DrawingText<A>, width: u64, height: u64)
 }
 
 /// Adds what was recorded.
-fn push_title<A: Allocator>(text: &mut DrawingText<A>, runs: &[String<A>])
+fn push_title<A: Allocator>(text: &mut TextBuilder<A>, runs: &[String<A>])
     ensures { Adds text.old (title_text (map string_bytes runs.now)) text.new }
 {
     if runs.is_empty() {
@@ -243,7 +248,7 @@ pub fn svg_text<A: Allocator + Copy>(
     ensures { IfOk result (λ text. text.items ≡ svg_text (naming_of names.now) drawing.now) }
 {
     let layout = layout_of(alloc, names, drawing)?;
-    let mut text = DrawingText::new(alloc);
+    let mut text = TextBuilder::new(alloc);
     push_head(&mut text, layout.width(), layout.height());
     push_title(&mut text, names.notes.runs());
     push_edges(&mut text, &layout, drawing.edges.as_slice());
