@@ -23,6 +23,8 @@ use trace_text::{BegunTrace, Trace};
 pub(crate) const MOST_BYTES: usize = 67_108_864;
 /// How many bytes are asked for at once.
 pub(crate) const PIECE: usize = 131_072;
+/// How many bytes of a whole text are asked for at once. Most texts are short, and the buffer is cleared first.
+const TEXT_PIECE: usize = 16_384;
 
 /// Reads a piece and adds it to the text, before which so many bytes were read. It says whether there was one: there is none at the end.
 fn read_piece<A: Allocator, R: Read>(
@@ -96,7 +98,7 @@ pub fn read_text<A: Allocator + Copy, R: Read>(
     ensures failed { IsErrOf result CliFault.Read ↔ IsTrue (has_failed input.new) }
     ensures calls { IsCalledAtMost most_reads (calls_of input.old) (calls_of input.new) }
 {
-    let mut buffer = vec![in alloc; 0u8; PIECE]?;
+    let mut buffer = vec![in alloc; 0u8; TEXT_PIECE]?;
     let piece = buffer.as_mut_slice();
     let mut text = Vec::new(alloc);
     read_until(input, piece, 0, &mut text, MOST_BYTES + 1)?;
