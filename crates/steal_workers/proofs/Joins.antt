@@ -1,6 +1,6 @@
 -- Passes that go back one after another.
-use Rattle.std.proofs.Common.{◌≡◌, ℕ, zero, suc, ◌+◌, ◌<◌, List, [], ◌∷◌, ◌++◌, drop, take, map, length, set, get_or, refl, sym, subst, ap, arith, ◌∙◌}
-use Rattle.std.proofs.lemmas.List.{take_more, take_more_set, get_or-map, length-map}
+use Rattle.std.proofs.Common.{◌≡◌, ℕ, ◌+◌, ◌<◌, List, [], ◌∷◌, ◌++◌, take, map, length, set, get_or, append_assoc, length-append, refl, sym, subst, ap, arith, ◌∙◌}
+use Rattle.std.proofs.lemmas.List.{take_more, take_more_set, get_or-map, get_or_at, length-map, map-append}
 use Rattle.std.proofs.lemmas.List.Elements.{All-push, All-same}
 use Rattle.steal_workers.specs.declared.pass_log.PassLog.{PassLog}
 use Rattle.steal_workers.specs.PassLogs.{joined}
@@ -11,25 +11,31 @@ pub joined_each-nil : (vs : List PassLog) → joined_each vs [] ≡ vs
 joined_each-nil [] = refl
 joined_each-nil (v ∷ vs) = refl
 
--- one more goes back, to the owner behind those that have theirs
-pub joined_each-push : (vs ws : List PassLog) (w d : PassLog) → length ws < length (joined_each vs ws)
-    → joined_each vs (ws ++ w ∷ []) ≡ set (joined_each vs ws) (length ws) (joined (get_or (joined_each vs ws) (length ws) d) w)
-joined_each-push [] ws w d within = absurd (omega (arith, within))
-joined_each-push (v ∷ vs) [] w d within = ap (λ rest. joined v w ∷ rest) (joined_each-nil vs)
-joined_each-push (v ∷ vs) (u ∷ ws) w d within = ap (λ rest. joined v u ∷ rest) (joined_each-push vs ws w d (omega (arith, within)))
+-- the last goes back first, to the owner that it leads to
+joined_each-last : (vs ws : List PassLog) (w d : PassLog) → length ws < length vs
+    → joined_each (set vs (length ws) (joined (get_or vs (length ws) d) w)) ws ≡ joined_each vs (ws ++ w ∷ [])
+joined_each-last [] ws w d within = absurd (omega (arith, within))
+joined_each-last (v ∷ vs) [] w d within = ap (λ rest. joined v w ∷ rest) (sym (joined_each-nil vs))
+joined_each-last (v ∷ vs) (u ∷ ws) w d within = ap (λ rest. joined v u ∷ rest) (joined_each-last vs ws w d (omega (arith, within)))
 
-pub joined_more : (vs ws now : List PassLog) (w v d : PassLog) (place : ℕ) → place ≡ length ws → now ≡ joined_each vs ws → place < length now → get_or now place d ≡ v
-    → set now place (joined v w) ≡ joined_each vs (ws ++ w ∷ [])
-joined_more vs ws now w v d place there same within had =
-    let push = joined_each-push vs ws w d (omega (arith, there, ap length same, within)) in
-    cc (push)
+pub joined_last : (vs ws : List PassLog) (w v d : PassLog) (place : ℕ) → place ≡ length ws → place < length vs → get_or vs place d ≡ v
+    → joined_each (set vs place (joined v w)) ws ≡ joined_each vs (ws ++ w ∷ [])
+joined_last vs ws w v d place there within had =
+    let last = joined_each-last vs ws w d (omega (arith, there, within)) in
+    cc (last)
 
--- the first of what is left from a place on stands there
-pub drop_head : {X : Type 0} (x d : X) (xs all : List X) (place : ℕ) → x ∷ xs ≡ drop place all → (place < length all) × (get_or all place d ≡ x) × (drop (suc place) all ≡ xs)
-drop_head x d xs [] zero same = absurd (cc)
-drop_head x d xs [] (suc place) same = absurd (cc)
-drop_head x d xs (y ∷ all) zero same = (omega arith, cc, cc)
-drop_head x d xs (y ∷ all) (suc place) same = let rest = drop_head x d xs all place same in (omega (arith, rest.0), rest.1, rest.2)
+pub joined_none : (vs ws : List PassLog) → length ws ≡ 0 → joined_each vs ws ≡ vs
+joined_none vs [] none = joined_each-nil vs
+joined_none vs (w ∷ ws) none = absurd (omega (arith, none))
+
+-- the last of some items leads where the others end
+pub last_leads : {X Y : Type 0} (f : X → Y) (items left : List X) (x : X) (owns rest : List Y) → owns ≡ map f items ++ rest → items ≡ left ++ x ∷ [] → owns ≡ map f left ++ (f x ∷ rest)
+last_leads f items left x owns rest same last =
+    same ∙ ap (λ these. map f these ++ rest) last ∙ ap (λ ys. ys ++ rest) (map-append f left (x ∷ [])) ∙ append_assoc (map f left) (f x ∷ []) rest
+
+pub led_to_last : {Y : Type 0} (owns led rest : List Y) (y d : Y) (place : ℕ) → owns ≡ led ++ (y ∷ rest) → length led ≡ place → (place < length owns) × (get_or owns place d ≡ y)
+led_to_last owns led rest y d place same there =
+    (omega (arith, ap length same, length-append led (y ∷ rest), there), ap (λ ys. get_or ys place d) same ∙ get_or_at led y rest d place there)
 
 -- what was made of the first of some items, and of one more
 pub one_more : {X Y : Type 0} (f : X → Y) (xs : List X) (made : List Y) (y e : Y) (place : ℕ) (d : X) → place < length xs → made ≡ take place (map f xs) → y ≡ f (get_or xs place d) → made ++ y ∷ [] ≡ take (place + 1) (map f xs)

@@ -101,18 +101,16 @@ fn join_all<'p, A: Allocator>(
     }
 }
 
-/// A worker's passes go back to the owners of their deques.
+/// A worker's passes go back to the owners of their deques, the last first.
 fn join_each<'p, A: Allocator>(
     owners: &mut Vec<Owner<'p, A>, A>,
-    reaches: Vec<StealHandle<'p, A>, A>,
+    mut reaches: Vec<StealHandle<'p, A>, A>,
 )
     requires { map deque_of reaches.items ≡ map worker_deque owners.old.items }
     ensures deques { map worker_deque owners.new.items ≡ map worker_deque owners.old.items }
     ensures views { map worker_view owners.new.items ≡ joined_each (map worker_view owners.old.items) (views_of reaches.entry) }
 {
-    let mut place = 0;
-    for reach in reaches {
-        reach.give_back(&mut owners[place]);
-        place += 1;
+    while let Some(reach) = reaches.pop() {
+        reach.give_back(&mut owners[reaches.len()]);
     }
 }

@@ -44,7 +44,7 @@ type Running<'p, L, A> = PromisedHandle<Worker<'p, L, A>, IdleWorker<'p, L, A>>;
 /// The workers. The last of them has the given seat, and each other one a part of it.
 fn hire<'p, L: Ledger, A: Allocator + Copy>(
     alloc: A,
-    ends: Vec<WorkerDeques<'p, A>, A>,
+    mut ends: Vec<WorkerDeques<'p, A>, A>,
     mut seat: Seat<L>,
 ) -> Result<Vec<Worker<'p, L, A>, A>, AllocError>
     requires workers { 0 < vec_len ends }
@@ -56,7 +56,6 @@ fn hire<'p, L: Ledger, A: Allocator + Copy>(
     ensures before { IfOk result (λ hired. sum_by (λ w. w.before) hired.items ≡ seat.asked) }
 {
     let mut hired = Vec::with_capacity(alloc, ends.len())?;
-    let mut ends = ends;
     let Some(last) = ends.pop() else {
         unreachable!()
     };
@@ -87,7 +86,6 @@ fn hire_each<'p, L: Ledger, A: Allocator + Copy>(
 
 /// Makes room for the threads of the workers and for what they bring back, and gives the first its task, before any of them begins.
 fn prepare<'p, L: Ledger, A: Allocator + Copy>(
-    alloc: A,
     program: &'p Program<Global>,
     hired: &mut Vec<Worker<'p, L, A>, A>,
     running: &mut Vec<Running<'p, L, A>, A>,
@@ -103,7 +101,7 @@ fn prepare<'p, L: Ledger, A: Allocator + Copy>(
 {
     running.reserve(hired.len())?;
     back.reserve(hired.len())?;
-    hired[0].begin(alloc, program)
+    hired[0].begin(program)
 }
 
 /// Starts the workers, and says whether all of them could be started. Where one could not, the run is over.
@@ -111,13 +109,12 @@ fn start<
     's,
     'p: 's,
     E,
-    L: Ledger + Send + Sync + 's,
+    L: Ledger + Send + 's,
     A: Allocator + Copy + Send + Sync + 's,
     G: Ask<L> + Sync + 's,
     R: Threads + Wait + Sync + 's,
 >(
     rt: &'s R,
-    alloc: A,
     scope: &Scope<'s, E>,
     hired: Vec<Worker<'p, L, A>, A>,
     gate: &'s G,
@@ -134,7 +131,7 @@ fn start<
     let mut all = true;
     for worker in hired {
         let before = IdleWorker(Snapshot::of(&worker));
-        match scope.spawn_with(before, move || worker.run(rt, alloc, gate, lot)) {
+        match scope.spawn_with(before, move || worker.run(rt, gate, lot)) {
             Ok(thread) => running.push_reserved(thread),
             Err(_refused) => {
                 gate.stop(rt);
@@ -151,7 +148,7 @@ fn run_workers<
     's,
     'p: 's,
     E,
-    L: Ledger + Send + Sync + 's,
+    L: Ledger + Send + 's,
     A: Allocator + Copy + Send + Sync + 's,
     G: Ask<L> + Sync + 's,
     R: Threads + Wait + Sync + 's,
@@ -169,8 +166,8 @@ fn run_workers<
 {
     let mut running = Vec::new(alloc);
     let mut back = Collection::new(alloc);
-    prepare(alloc, program, &mut hired, &mut running, &mut back)?;
-    back.fault = thread_fault_of(start(rt, alloc, scope, hired, gate, lot, &mut running));
+    prepare(program, &mut hired, &mut running, &mut back)?;
+    back.fault = thread_fault_of(start(rt, scope, hired, gate, lot, &mut running));
     join_workers(rt, running, &mut back);
     back.settle()
 }
@@ -194,7 +191,7 @@ fn join_workers<'p, L: Ledger, A: Allocator + Copy, R: Threads>(
 /// function whose type names the lifetime of another capture.
 fn run_in_scope<
     'p,
-    L: Ledger + Send + Sync,
+    L: Ledger + Send,
     A: Allocator + Copy + Send + Sync,
     G: Ask<L> + Sync,
     R: Threads + Wait + Sync,

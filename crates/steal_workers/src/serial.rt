@@ -33,7 +33,6 @@ fn ask_next<A: Allocator + Clone>(
 /// Goes on behind an answer: with the task, with the child that it spawned, or with what waited for its return. Answers whether the run
 /// goes on.
 fn go_on<'p, A: Allocator + Copy>(
-    alloc: A,
     waiting: &mut Waiting<'p, A>,
     spare: &mut Spare<A>,
     task: &mut Task<'p, A>,
@@ -48,7 +47,7 @@ fn go_on<'p, A: Allocator + Copy>(
                 return Err(RunFault::Strange);
             };
             waiting.reserve(1)?;
-            let child = Task::for_child(alloc, task.program, strands.child, target, spare)?;
+            let child = Task::for_child(task.program, strands.child, target, spare)?;
             let spawner = mem::replace(task, child);
             waiting.push_reserved(spawner.on(strands.next));
             Ok(true)
@@ -85,10 +84,10 @@ pub fn run_serially<A: Allocator + Copy>(
 ) -> Result<(), RunFault> {
     let mut spare = Vec::new(alloc);
     let mut waiting = Vec::new(alloc);
-    let mut task = Task::root(alloc, program, &mut spare)?;
+    let mut task = Task::root(program, &mut spare)?;
     for _ in 0..=MOST_REQUESTS {
         let (answer, target) = ask_next(gate, &mut task)?;
-        if !go_on(alloc, &mut waiting, &mut spare, &mut task, answer, target)? {
+        if !go_on(&mut waiting, &mut spare, &mut task, answer, target)? {
             return Ok(());
         }
     }

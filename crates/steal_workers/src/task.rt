@@ -58,7 +58,6 @@ impl<'p, A: Allocator + Copy> Task<'p, A> {
 
     /// The function `main` with argument 0, on the first strand.
     pub(crate) fn root(
-        alloc: A,
         program: &'p Program<Global>,
         spare: &mut Spare<A>,
     ) -> Result<Task<'p, A>, AllocError>
@@ -71,12 +70,11 @@ impl<'p, A: Allocator + Copy> Task<'p, A> {
             function,
             argument: 0,
         };
-        Task::for_child(alloc, program, 0, target, spare)
+        Task::for_child(program, 0, target, spare)
     }
 
     /// A function at its begin, on this strand. It takes memory only where no frame is in reserve.
     pub(crate) fn for_child(
-        alloc: A,
         program: &'p Program<Global>,
         strand: u32,
         target: Target,
@@ -93,6 +91,7 @@ impl<'p, A: Allocator + Copy> Task<'p, A> {
                 frame
             }
             None => {
+                let alloc = *spare.allocator();
                 let frame = Frame::new(alloc, program, target.function, target.argument);
                 Box::new(alloc, frame)?
             }

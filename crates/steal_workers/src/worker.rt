@@ -106,11 +106,11 @@ impl<'p, L: Ledger, A: Allocator + Copy> Worker<'p, L, A> {
     }
 
     /// The task of the program's begin becomes one of this worker's deque.
-    pub fn begin(&mut self, alloc: A, program: &'p Program<Global>) -> Result<(), AllocError>
+    pub fn begin(&mut self, program: &'p Program<Global>) -> Result<(), AllocError>
         ensures station { station_of self.new ≡ station_of self.old }
         ensures ok { OnOk result (own_view self.new.ends ≡ pushing 0 (own_view self.old.ends)) }
     {
-        let root = Task::root(alloc, program, &mut self.spare)?;
+        let root = Task::root(program, &mut self.spare)?;
         self.ends.push(root)
     }
 
@@ -118,7 +118,6 @@ impl<'p, L: Ledger, A: Allocator + Copy> Worker<'p, L, A> {
     fn step<G: Ask<L>, R: Wait>(
         &mut self,
         rt: &R,
-        alloc: A,
         gate: &G,
         lot: &Lot<'p, A>,
         task: &mut Task<'p, A>,
@@ -131,14 +130,13 @@ impl<'p, L: Ledger, A: Allocator + Copy> Worker<'p, L, A> {
         let next = task.next_request()?;
         let answer = self.seat.ask(rt, gate, &mut self.receipts, next.request)?;
         task.answer(&answer)?;
-        self.follow(rt, alloc, lot, task, answer, next)
+        self.follow(rt, lot, task, answer, next)
     }
 
     /// Where the worker goes on after an answer that the frame took, and on which strand.
     fn follow<R: Wait>(
         &mut self,
         rt: &R,
-        alloc: A,
         lot: &Lot<'p, A>,
         task: &mut Task<'p, A>,
         answer: Answer,
@@ -154,7 +152,7 @@ impl<'p, L: Ledger, A: Allocator + Copy> Worker<'p, L, A> {
     {
         match answer {
             Answer::Split(strands) => {
-                self.spawn(alloc, task.program, strands.child, asked.target)?;
+                self.spawn(task.program, strands.child, asked.target)?;
                 task.strand = strands.next;
                 Ok(NextStep::Ahead)
             }
@@ -184,7 +182,6 @@ impl<'p, L: Ledger, A: Allocator + Copy> Worker<'p, L, A> {
     /// The child's frame becomes a task of this worker's deque.
     fn spawn(
         &mut self,
-        alloc: A,
         program: &'p Program<Global>,
         child: u32,
         target: Option<Target>,
@@ -197,7 +194,7 @@ impl<'p, L: Ledger, A: Allocator + Copy> Worker<'p, L, A> {
     {
         match target {
             Some(target) => {
-                let task = Task::for_child(alloc, program, child, target, &mut self.spare)?;
+                let task = Task::for_child(program, child, target, &mut self.spare)?;
                 self.ends.push(task)?;
                 Ok(())
             }
@@ -209,7 +206,6 @@ impl<'p, L: Ledger, A: Allocator + Copy> Worker<'p, L, A> {
     fn walk<G: Ask<L>, R: Wait>(
         &mut self,
         rt: &R,
-        alloc: A,
         gate: &G,
         lot: &Lot<'p, A>,
         mut task: Task<'p, A>,
@@ -218,7 +214,7 @@ impl<'p, L: Ledger, A: Allocator + Copy> Worker<'p, L, A> {
         ensures torn { result ≡ Err RunFault.Torn → EndsAtJoin self.new.receipts.items }
     {
         for _ in rt.forever() {
-            match self.step(rt, alloc, gate, lot, &mut task)? {
+            match self.step(rt, gate, lot, &mut task)? {
                 NextStep::Ahead => {}
                 going => match hand_out(rt, lot, going, task, &mut self.spare)? {
                     Some(next) => task = next,
@@ -232,7 +228,6 @@ impl<'p, L: Ledger, A: Allocator + Copy> Worker<'p, L, A> {
     fn work<G: Ask<L>, R: Wait>(
         &mut self,
         rt: &R,
-        alloc: A,
         gate: &G,
         lot: &Lot<'p, A>,
     ) -> Result<(), RunFault>
@@ -246,7 +241,7 @@ impl<'p, L: Ledger, A: Allocator + Copy> Worker<'p, L, A> {
                 Some(task) => {
                     backoff.reset();
                     doze = DOZE;
-                    self.walk(rt, alloc, gate, lot, task)?;
+                    self.walk(rt, gate, lot, task)?;
                 }
                 None => {
                     if lot.look(rt) {
@@ -264,17 +259,11 @@ impl<'p, L: Ledger, A: Allocator + Copy> Worker<'p, L, A> {
     }
 
     /// Works until the lot is closed. A fault stops the gate and closes the lot.
-    pub fn run<G: Ask<L>, R: Wait>(
-        mut self,
-        rt: &R,
-        alloc: A,
-        gate: &G,
-        lot: &Lot<'p, A>,
-    ) -> Worker<'p, L, A>
+    pub fn run<G: Ask<L>, R: Wait>(mut self, rt: &R, gate: &G, lot: &Lot<'p, A>) -> Worker<'p, L, A>
         ensures station { station_of result ≡ station_of self.entry }
         ensures torn { TornAtJoin result }
     {
-        match self.work(rt, alloc, gate, lot) {
+        match self.work(rt, gate, lot) {
             Ok(()) => self.fault = None,
             Err(fault) => {
                 gate.stop(rt);

@@ -28,7 +28,7 @@ hire-requires g c =
 pub run_in_scope-requires : goal.run_in_scope-requires
 run_in_scope-requires g c =
     let bounds = c.type_bounds in
-    (bounds.send-L, (bounds.send-A, (bounds.sync-L, (bounds.sync-A, (bounds.sync-G, (bounds.sync-R, (bounds.frees-A-Allocator, c.in_ok-hired.ensures.ready)))))))
+    (bounds.send-L, (bounds.send-A, (bounds.sync-A, (bounds.sync-G, (bounds.sync-R, (bounds.frees-A-Allocator, c.in_ok-hired.ensures.ready))))))
 
 pub returns-in_err-make_worker_deques-clause-answered : goal.returns-in_err-make_worker_deques-clause-answered
 returns-in_err-make_worker_deques-clause-answered g c = inl (search rules)

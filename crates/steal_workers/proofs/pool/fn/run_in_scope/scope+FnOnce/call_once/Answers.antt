@@ -6,4 +6,4 @@ pub scope-requires : goal.scope-requires
 scope-requires g c =
     let said = c.requires.1.1.1.1 in
     let bounds = said.1 in
-    (bounds.0, (bounds.1, (bounds.2, (bounds.3, (bounds.4, (bounds.5, (bounds.6, said.0)))))))
+    (bounds.0, (bounds.1, (bounds.2, (bounds.3, (bounds.4, (bounds.5, said.0))))))
