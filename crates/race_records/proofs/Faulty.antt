@@ -20,20 +20,25 @@ one_more file source faults rest fault one old with new added tells first second
   subst (λ (some : List Fault). RecordsFaults file source some (one ∷ added)) (sym is) (tells, others),
 )
 
+-- a fault and those behind it
+pub faults_listed : (file : List ℕ) (source : List (List ℕ)) (first : Fault) (others : List Fault) (one : Data) (old new added : List Data) →
+    RecordsFault file source first one → old ≡ one ∷ [] → new ≡ old ++ added → RecordsFaults file source others added →
+    RecordsFaults file source (first ∷ others) new
+faults_listed file source first others one old new added tells begun whole rest =
+    subst (λ (all : List Data). RecordsFaults file source (first ∷ others) all)
+    (sym (whole ∙ ap (λ (front : List Data). front ++ added) begun)) (tells, rest)
+
 -- the faults of a text
 pub text_recorded : (form : RecordForm) (file : List ℕ) (meant : Meant) (text : List ℕ) (first : Fault) (source : List (List ℕ)) (list others : List Fault) (more : Bool)
-    (one : Data) (old all added : List Data) (value : Data) (told : List ℕ) → ListsFaults meant text first others more → list ≡ others →
-    source ≡ lines text → RecordsFault file source first one → old ≡ one ∷ [] → all ≡ old ++ added → RecordsFaults file source list added →
-    value ≡ faulty_told all more → IsTextOf (in_form form value) told → RecordsText form file meant text first told
-text_recorded form file meant text first source list others more one old all added value told lists same is tells begun whole rest value_is is_text = record {
+    (faults : List Data) (value : Data) (told : List ℕ) → ListsFaults meant text first others more → list ≡ others →
+    source ≡ lines text → RecordsFaults file source (first ∷ list) faults →
+    value ≡ faulty_told faults more → IsTextOf (in_form form value) told → RecordsText form file meant text first told
+text_recorded form file meant text first source list others more faults value told lists same is tells value_is is_text = record {
   others = others;
   more = more;
   lists = lists;
-  faults = one ∷ added;
-  are_faults = (
-    subst (λ (s : List (List ℕ)). RecordsFault file s first one) is tells,
-    subst (λ (s : List (List ℕ)). RecordsFaults file s others added) is (subst (λ (some : List Fault). RecordsFaults file source some added) same rest),
-  );
-  is_text = subst (λ (v : Data). IsTextOf (in_form form v) told)
-      (value_is ∙ ap (λ (faults : List Data). faulty_told faults more) (whole ∙ ap (λ (front : List Data). front ++ added) begun)) is_text;
+  faults = faults;
+  are_faults = subst (λ (s : List (List ℕ)). RecordsFaults file s (first ∷ others) faults) is
+      (subst (λ (some : List Fault). RecordsFaults file source (first ∷ some) faults) same tells);
+  is_text = subst (λ (v : Data). IsTextOf (in_form form v) told) value_is is_text;
 }

@@ -1,43 +1,48 @@
 -- Findings with their races, one by one.
 use Rattle.std.proofs.Common.{◌≡◌, ℕ, ◌+◌, ◌<◌, List, [], ◌∷◌, ◌++◌, length, take, map, get_or, sym, subst, ap, ◌∙◌, arith}
+use Rattle.std.specs.Prelude.{Result, Ok, Err, OnOk}
 use Rattle.std.proofs.lemmas.List.{take_more, length-map, get_or-map}
 use Rattle.model_histories.specs.declared.answer.Entry.{Entry}
 use Rattle.race_pairs.specs.declared.race.Pair.{Pair}
 use Rattle.race_pairs.specs.declared.race.Race.{Race}
 use Rattle.race_pairs.specs.declared.digest.Digest.{Digest}
 use Rattle.race_pairs.specs.Digests.{IsDigest}
-use Rattle.race_explanations.specs.declared.finding.Finding.{Finding}
 use Rattle.race_explanations.specs.declared.extent.Extent.{Extent}
 use Rattle.race_explanations.specs.Extents.{most_pairs}
 use Rattle.race_explanations.specs.Settings.{Setting}
-use Rattle.race_explanations.specs.Findings.{added_up, IsFinding}
-use Rattle.race_records.specs.Races.{RaceParts}
+use Rattle.race_explanations.specs.Findings.{added_up}
 use Rattle.race_pairs.specs.Pairs.{ArePairs}
-use Rattle.race_records.specs.Several.{Kept, with_kept, IsRace, AddsKept, none, more, Recorded, untold_in, AddsPairs, AddsTrace}
+use Rattle.race_records.specs.Keeping.{AddsPair}
+use Rattle.race_records.specs.Several.{Kept, AddsKept, none, more, Recorded, untold_in, AddsPairs, AddsTrace}
+
+-- what two clauses say together
+pub on_ok_both : {T E P Q R : Type 0} (r : Result T E) → (P → Q → R) → OnOk r P → OnOk r Q → OnOk r R
+on_ok_both (Ok value) both p q = both p q
+on_ok_both (Err fault) both p q = tt
 
 -- no pair
 pub none_kept : (setting : Setting) (trace : ℕ) (entries : List Entry) (old : Kept) → AddsKept setting trace entries old [] old
 none_kept setting trace entries old = none
 
 -- one pair more
-pub one_kept : (setting : Setting) (trace : ℕ) (entries : List Entry) (old one two : Kept) (pairs : List Pair) (index : ℕ) (d : Pair) (finding : Finding) (race : RaceParts) →
-    index < length pairs → AddsKept setting trace entries old (take index pairs) one → IsFinding setting trace entries (get_or pairs index d) finding →
-    IsRace setting entries (get_or pairs index d) race → two ≡ with_kept one finding race → AddsKept setting trace entries old (take (index + 1) pairs) two
-one_kept setting trace entries old one two pairs index d finding race below before found is_race is =
+one_kept : (setting : Setting) (trace : ℕ) (entries : List Entry) (old one two : Kept) (pairs : List Pair) (index : ℕ) (d : Pair) → index < length pairs →
+    AddsKept setting trace entries old (take index pairs) one → AddsPair setting trace entries one (get_or pairs index d) two →
+    AddsKept setting trace entries old (take (index + 1) pairs) two
+one_kept setting trace entries old one two pairs index d below before adds =
     subst (λ (first : List Pair). AddsKept setting trace entries old first two) (sym (take_more pairs index d below))
-    (subst (λ (kept : Kept). AddsKept setting trace entries old (take index pairs ++ get_or pairs index d ∷ []) kept) (sym is)
-    (more (get_or pairs index d) finding race before found is_race))
+    (subst (λ (kept : Kept). AddsKept setting trace entries old (take index pairs ++ get_or pairs index d ∷ []) kept) (sym adds.new_is)
+    (more (get_or pairs index d) adds.finding adds.race before adds.is_finding adds.is_race))
 
 -- one pair more of those of races
-pub race_kept : (setting : Setting) (trace : ℕ) (entries : List Entry) (old one two : Kept) (races : List Race) (index : ℕ) (d : Race) (finding : Finding) (race : RaceParts) →
+pub race_kept : (setting : Setting) (trace : ℕ) (entries : List Entry) (old one two : Kept) (races : List Race) (index : ℕ) (d item : Race) →
     index < length races → AddsKept setting trace entries old (take index (map (λ (race : Race). race.pair) races)) one →
-    IsFinding setting trace entries (get_or races index d).pair finding → IsRace setting entries (get_or races index d).pair race →
-    two ≡ with_kept one finding race → AddsKept setting trace entries old (take (index + 1) (map (λ (race : Race). race.pair) races)) two
-race_kept setting trace entries old one two races index d finding race below before found is_race is =
-    let at = sym (get_or-map (λ (race : Race). race.pair) races index d d.pair below) in
-    one_kept setting trace entries old one two (map (λ (race : Race). race.pair) races) index d.pair finding race
+    item ≡ get_or races index d → AddsPair setting trace entries one item.pair two →
+    AddsKept setting trace entries old (take (index + 1) (map (λ (race : Race). race.pair) races)) two
+race_kept setting trace entries old one two races index d item below before is adds =
+    one_kept setting trace entries old one two (map (λ (race : Race). race.pair) races) index d.pair
     (omega (arith, below, length-map races (λ (race : Race). race.pair))) before
-    (subst (λ (pair : Pair). IsFinding setting trace entries pair finding) at found) (subst (λ (pair : Pair). IsRace setting entries pair race) at is_race) is
+    (subst (λ (pair : Pair). AddsPair setting trace entries one pair two)
+    (ap (λ (race : Race). race.pair) is ∙ sym (get_or-map (λ (race : Race). race.pair) races index d d.pair below)) adds)
 
 -- the first pairs of a trace
 pub pairs_added : (setting : Setting) (entries : List Entry) (most : ℕ) (old new : Recorded) (pairs front : List Pair) (count : ℕ) → ArePairs entries pairs →

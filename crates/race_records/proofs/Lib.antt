@@ -6,3 +6,4 @@ mod Colons
 mod Together
 mod PlainLists
 mod Copied
+mod Optional

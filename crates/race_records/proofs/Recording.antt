@@ -6,7 +6,6 @@ use Rattle.model_histories.specs.declared.answer.Entry.{Entry}
 use Rattle.race_pairs.specs.declared.race.Pair.{Pair}
 use Rattle.race_pairs.specs.declared.race.Race.{Race}
 use Rattle.race_pairs.specs.declared.groups.Group.{Group}
-use Rattle.race_pairs.specs.Groups.{AreGroups}
 use Rattle.program_warnings.specs.declared.warning.Warning.{Warning}
 use Rattle.program_warnings.specs.Messages.{AreWarnings}
 use Rattle.race_explanations.specs.declared.case.Case.{Case}
@@ -20,7 +19,7 @@ use Rattle.race_records.specs.Values.{IsTextOf}
 use Rattle.race_records.specs.declared.form.RecordForm.{RecordForm}
 use Rattle.race_records.specs.Forms.{in_form}
 use Rattle.race_records.specs.Warned.{Warned, warned_of}
-use Rattle.race_records.specs.Races.{group_told, groups_told}
+use Rattle.race_records.specs.Races.{group_told, groups_told, TellsRaces}
 use Rattle.race_records.specs.Documents.{SummaryParts, EndParts, RunParts, document_told, summary_of, RecordsEntries, RecordsRun}
 
 -- Behind what is told of the groups before one, it and those behind it are told.
@@ -37,25 +36,24 @@ group_more setting cases groups index d told new whole below before is =
 
 -- what is told of the entries
 pub entries_recorded : (form : RecordForm) (extent : Extent) (setting : Setting) (entries : List Entry) (end : EndParts)
-    (pairs : List Pair) (races : List Race) (cases : List Case) (groups : List Group) (values untold : List Data) (summary : SummaryParts) (value : Data)
+    (pairs : List Pair) (races : List Race) (values untold : List Data) (summary : SummaryParts) (value : Data)
     (text : List ℕ) → ArePairs entries pairs → map (λ (race : Race). race.pair) races ≡ take (most_pairs extent) pairs →
-    AreCases entries (map (λ (race : Race). race.pair) races) cases → AreGroups races groups → values ≡ groups_told setting cases 1 groups →
-    untold ≡ [] → summary ≡ summary_of end.outcome end.traces entries (length pairs) →
+    TellsRaces setting entries races values → untold ≡ [] → summary ≡ summary_of end.outcome end.traces entries (length pairs) →
     value ≡ document_told summary end.memory values end.recorded untold end.warned → IsTextOf (in_form form value) text →
     RecordsEntries form extent setting entries end text
-entries_recorded form extent setting entries end pairs races cases groups values untold summary value text are first of grouped values_are empty summary_is told is_text = record {
+entries_recorded form extent setting entries end pairs races values untold summary value text are first tells empty summary_is told is_text = record {
   pairs = pairs;
   are_pairs = are;
   races = races;
   are_kept = first;
-  cases = cases;
-  are_cases = subst (λ (some : List Pair). AreCases entries some cases) first of;
-  groups = groups;
-  are_groups = grouped;
+  cases = tells.cases;
+  are_cases = subst (λ (some : List Pair). AreCases entries some tells.cases) first tells.are_cases;
+  groups = tells.groups;
+  are_groups = tells.are_groups;
   is_text = subst (λ (v : Data). IsTextOf (in_form form v) text)
       (told ∙ ap (λ (u : List Data). document_told summary end.memory values end.recorded u end.warned) empty ∙
       ap (λ (s : SummaryParts). document_told s end.memory values end.recorded [] end.warned) summary_is ∙
-      ap (λ (v : List Data). document_told (summary_of end.outcome end.traces entries (length pairs)) end.memory v end.recorded [] end.warned) values_are) is_text;
+      ap (λ (v : List Data). document_told (summary_of end.outcome end.traces entries (length pairs)) end.memory v end.recorded [] end.warned) tells.values_are) is_text;
 }
 
 -- how a run came out, with these notes and warnings

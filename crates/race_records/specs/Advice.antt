@@ -1,5 +1,5 @@
 -- Where two strands part, and what would order them.
-use Rattle.std.specs.Prelude.{ℕ, Bool, codes, Option, Some, None, unwrap_or}
+use Rattle.std.specs.Prelude.{ℕ, Bool, true, false, codes, Option, Some, None, unwrap_or}
 use Rattle.serde_json.specs.Data.{Data, null, object, member, no_members}
 use Rattle.race_pairs.specs.declared.lineage.Parting.{Parting}
 use Rattle.race_pairs.specs.declared.lineage.OpenSpawn.{OpenSpawn}
@@ -53,3 +53,20 @@ parting_of reason setting pair encounter = null
 abbrev pub outstanding_of : Reason → Setting → Pair → Encounter → Data
 outstanding_of ViewRead setting pair encounter = outstanding_told setting pair encounter.refused.strand encounter.outstanding
 outstanding_of reason setting pair encounter = null
+
+-- ---- all of it
+
+-- how the two strands of a pair stand to each other; what orders them where a sync is sure to, and where it is not
+pub record AdviceParts : Type 0 where
+  pub sure_help : Data
+  pub open_help : Data
+  pub outstanding : Data
+  pub parting : Data
+
+abbrev pub advice_of : Reason → Setting → Pair → Encounter → AdviceParts
+advice_of reason setting pair encounter = record {
+  sure_help = help_told reason setting pair encounter true;
+  open_help = help_told reason setting pair encounter false;
+  outstanding = outstanding_of reason setting pair encounter;
+  parting = parting_of reason setting pair encounter;
+}

@@ -4,6 +4,7 @@ pub mod Sites
 pub mod SiteViews
 pub mod Accesses
 pub mod Advice
+pub mod AdviceViews
 pub mod Races
 pub mod RaceViews
 pub mod Warned
@@ -13,3 +14,4 @@ pub mod SummaryViews
 pub mod Unjudged
 pub mod Several
 pub mod SeveralViews
+pub mod Keeping

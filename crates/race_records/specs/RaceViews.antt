@@ -1,16 +1,14 @@
 -- The parts of a race as data.
 use Rattle.serde_json.specs.View.{view}
 use Rattle.race_records.specs.declared.race.Race.{Race}
+use Rattle.race_records.specs.AdviceViews.{advice_parts}
 use Rattle.race_records.specs.Races.{RaceParts}
 
 abbrev pub race_parts : Race → RaceParts
 race_parts race = record {
   reason = race.reason;
   spawn = race.spawn;
-  sure_help = view race.sure_help;
-  open_help = view race.open_help;
-  outstanding = view race.outstanding;
-  parting = view race.parting;
+  advice = advice_parts race.advice;
   refused = view race.refused;
   witness = view race.witness;
 }

@@ -1,19 +1,23 @@
 -- What is told of a pair of places that raced.
-use Rattle.std.specs.Prelude.{ℕ, suc, Bool, true, false, List, [], ◌∷◌, ◌++◌, Option, Some, None, codes, drop, flat_map, slice_get, if◌then◌else◌}
+use Rattle.std.specs.Prelude.{ℕ, suc, ◌≡◌, Bool, List, [], ◌∷◌, ◌++◌, Option, Some, None, codes, drop, flat_map, map, slice_get, if◌then◌else◌}
 use Rattle.serde_json.specs.Data.{Data, Members, null, string, object, member, no_members}
 use Rattle.model_accesses.specs.Table.{spelling}
+use Rattle.model_histories.specs.declared.answer.Entry.{Entry}
 use Rattle.race_pairs.specs.declared.refusal.Reason.{Reason}
 use Rattle.race_pairs.specs.declared.refusal.Reason.TheVariants.{Race, ViewRead, Unset}
 use Rattle.race_pairs.specs.declared.race.Pair.{Pair}
+use Rattle.race_pairs.specs.declared.race.Race.{Race as OneRace}
+use Rattle.race_pairs.specs.Groups.{AreGroups}
 use Rattle.race_pairs.specs.declared.groups.Group.{Group}
 use Rattle.race_pairs.specs.declared.encounter.Encounter.{Encounter}
 use Rattle.race_explanations.specs.declared.case.Case.{Case}
 use Rattle.race_explanations.specs.Settings.{Setting}
 use Rattle.race_explanations.specs.Titles.{told_names}
 use Rattle.race_explanations.specs.Groups.{is_group_sure}
+use Rattle.race_explanations.specs.Cases.{AreCases}
 use Rattle.race_records.specs.Values.{text_told, count_told, number_or_null, list_told}
 use Rattle.race_records.specs.Accesses.{access_told}
-use Rattle.race_records.specs.Advice.{help_told, parting_of, outstanding_of}
+use Rattle.race_records.specs.Advice.{AdviceParts, advice_of}
 
 abbrev pub rule_word : Reason → List ℕ
 rule_word (Race earlier refused) = codes "determinacy-race"
@@ -34,14 +38,11 @@ witness_told reason setting pair encounter = access_told setting pair.witness en
 abbrev pub name_told : List ℕ → Data
 name_told spaced = text_told (drop 1 spaced)
 
--- what is told of a pair but for the names of what it raced on, and how often; what orders it where a sync is sure to, and where it is not
+-- what is told of a pair but for the names of what it raced on, and how often
 pub record RaceParts : Type 0 where
   pub reason : Reason
   pub spawn : Option ℕ
-  pub sure_help : Data
-  pub open_help : Data
-  pub outstanding : Data
-  pub parting : Data
+  pub advice : AdviceParts
   pub refused : Data
   pub witness : Data
 
@@ -49,10 +50,7 @@ abbrev pub parts_of : Setting → Pair → Encounter → RaceParts
 parts_of setting pair encounter = record {
   reason = pair.lines.reason;
   spawn = pair.spawn;
-  sure_help = help_told pair.lines.reason setting pair encounter true;
-  open_help = help_told pair.lines.reason setting pair encounter false;
-  outstanding = outstanding_of pair.lines.reason setting pair encounter;
-  parting = parting_of pair.lines.reason setting pair encounter;
+  advice = advice_of pair.lines.reason setting pair encounter;
   refused = access_told setting pair.first (Some encounter.refused) encounter.chain.items;
   witness = witness_told pair.lines.reason setting pair encounter;
 }
@@ -61,8 +59,8 @@ parts_of setting pair encounter = record {
 abbrev pub race_members : RaceParts → Members
 race_members parts =
     member (codes "kind") (string (kind_word parts.reason))
-    (member (codes "outstanding") parts.outstanding
-    (member (codes "parting") parts.parting
+    (member (codes "outstanding") parts.advice.outstanding
+    (member (codes "parting") parts.advice.parting
     (member (codes "refused") parts.refused
     (member (codes "rule") (string (rule_word parts.reason))
     (member (codes "spawn_line") (number_or_null parts.spawn)
@@ -73,11 +71,11 @@ race_members parts =
 abbrev pub race_told : RaceParts → (names : List (List ℕ)) → (times group : ℕ) → (is_sure : Bool) → Data
 race_told parts names times group is_sure =
     object (member (codes "group") (count_told group)
-    (member (codes "help") (if is_sure then parts.sure_help else parts.open_help)
+    (member (codes "help") (if is_sure then parts.advice.sure_help else parts.advice.open_help)
     (member (codes "kind") (string (kind_word parts.reason))
     (member (codes "locations") (list_told name_told names)
-    (member (codes "outstanding") parts.outstanding
-    (member (codes "parting") parts.parting
+    (member (codes "outstanding") parts.advice.outstanding
+    (member (codes "parting") parts.advice.parting
     (member (codes "refused") parts.refused
     (member (codes "rule") (string (rule_word parts.reason))
     (member (codes "spawn_line") (number_or_null parts.spawn)
@@ -111,3 +109,11 @@ group_told setting cases group one = places_told setting cases group (is_group_s
 abbrev pub groups_told : Setting → List Case → (group : ℕ) → List Group → List Data
 groups_told setting cases group [] = []
 groups_told setting cases group (one ∷ groups) = group_told setting cases group one ++ groups_told setting cases (suc group) groups
+
+-- The values tell of these races, in groups.
+pub record TellsRaces (setting : Setting) (entries : List Entry) (races : List OneRace) (values : List Data) : Type 0 where
+  pub cases : List Case
+  pub are_cases : AreCases entries (map (λ race. race.pair) races) cases
+  pub groups : List Group
+  pub are_groups : AreGroups races groups
+  pub values_are : values ≡ groups_told setting cases 1 groups

@@ -13,14 +13,14 @@ ghost use Rattle.serde_json.specs.View.{view};
 ghost use Rattle.race_explanations.specs.Scenes.{setting_of};
 ghost use Rattle.race_explanations.specs.Explained.{program_file, trace_setting};
 ghost use Rattle.race_explanations.specs.Extents.{most_pairs};
-ghost use Rattle.race_records.specs.Races.{case_told, told_at, places_told, group_told, groups_told};
+ghost use Rattle.race_records.specs.Races.{case_told, told_at, places_told, group_told, groups_told, TellsRaces};
 ghost use Rattle.race_records.specs.Documents.{document_told, summary_of, end_of_trace, run_parts, RecordsEntries, RecordsRun, outcome_word};
 ghost use Rattle.race_records.specs.WarnedViews.{warned_parts};
 ghost use Rattle.race_records.specs.SummaryViews.{summary_parts};
 
 use crate::form::{RecordForm, record_text};
 use crate::race::case_value;
-use crate::value::{size_or_null, texts_value};
+use crate::value::texts_value;
 use crate::warning::{Warned, none_warned, tell_warnings_in};
 use program_text::Program;
 use program_warnings::Wraps;
@@ -81,7 +81,7 @@ pub(crate) fn document_value(
 {
     Object::new(alloc)
         .with_text("outcome", outcome_word(summary.outcome))
-        .with("pairs", size_or_null(summary.pairs))
+        .with("pairs", Value::from(summary.pairs))
         .with("refusals", Value::from(summary.refusals))
         .with("requests", Value::from(summary.requests))
         .with("traces", Value::from(summary.traces))
@@ -178,6 +178,17 @@ fn group_values(
     Ok(values)
 }
 
+/// What is told of the races of a scene, in groups of those that part at spawns on one line.
+fn races_value(alloc: Global, scene: &Scene<'_, '_>) -> Result<Vec<Value>, AllocError>
+    requires { (entries : List Entry) × IsDigest entries scene.now.digest.now }
+    ensures { IfOk result (λ values. (entries : List Entry) → IsDigest entries scene.now.digest.now →
+        TellsRaces (setting_of scene.now) entries scene.now.digest.now.races.list.items (map view values.items)) }
+{
+    let cases = cases_of(alloc, scene.digest)?;
+    let groups = group_races(alloc, scene.digest.races())?;
+    group_values(alloc, scene, cases.as_slice(), groups.as_slice())
+}
+
 /// How the entries came out of which this is the digest.
 fn summary_of(outcome: Outcome, traces: usize, digest: &Digest) -> Summary
     ensures { (entries : List Entry) → IsDigest entries digest.now →
@@ -216,9 +227,7 @@ fn entries_record(
           warned = warned_parts warned.now;
         }) text.items) }
 {
-    let cases = cases_of(alloc, scene.digest)?;
-    let groups = group_races(alloc, scene.digest.races())?;
-    let races = group_values(alloc, scene, cases.as_slice(), groups.as_slice())?;
+    let races = races_value(alloc, scene)?;
     let summary = summary_of(outcome, traces, scene.digest);
     let untold = Vec::new(alloc);
     let document = document_value(alloc, summary, memory, races, recorded, untold, warned)?;

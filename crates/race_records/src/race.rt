@@ -1,6 +1,6 @@
 //! What is told of a pair of places that raced.
 
-ghost use Rattle.std.specs.Prelude.{◌≡◌, ℕ, List, IfOk, map, if◌then◌else◌};
+ghost use Rattle.std.specs.Prelude.{◌≡◌, ℕ, List, IfOk, map};
 ghost use Rattle.std.specs.Global.{Vec};
 ghost use Rattle.serde_json.specs.Data.{string};
 ghost use Rattle.serde_json.specs.View.{view};
@@ -11,8 +11,8 @@ ghost use Rattle.race_records.specs.Races.{rule_word, kind_word, witness_told, n
 ghost use Rattle.race_records.specs.RaceViews.{race_parts};
 
 use crate::access::access_value;
-use crate::advice::{help_value, outstanding_of, parting_of};
-use crate::value::{count_or_null, text_value};
+use crate::advice::{Advice, advice_of};
+use crate::value::text_value;
 use access_table::word;
 use race_explanations::{Case, Scene, display_names};
 use race_pairs::{Encounter, Pair, Reason};
@@ -26,12 +26,7 @@ pub(crate) struct Race {
     pub(crate) reason: Reason,
     /// The line of the spawn at which the two strands part.
     pub(crate) spawn: Option<u32>,
-    /// What orders the two, where a sync is sure to.
-    pub(crate) sure_help: Value,
-    /// The same, where it is not.
-    pub(crate) open_help: Value,
-    pub(crate) outstanding: Value,
-    pub(crate) parting: Value,
+    pub(crate) advice: Advice,
     pub(crate) refused: Value,
     pub(crate) witness: Value,
 }
@@ -42,10 +37,7 @@ impl Drop for Race {
         let Race {
             reason: _,
             spawn: _,
-            sure_help: _,
-            open_help: _,
-            outstanding: _,
-            parting: _,
+            advice: _,
             refused: _,
             witness: _,
         } = self;
@@ -93,10 +85,7 @@ pub(crate) fn race_of(
 ) -> Result<Race, AllocError>
     ensures { IfOk result (λ race. race_parts race ≡ parts_of (setting_of scene.now) pair.now encounter.now) }
 {
-    let sure_help = help_value(alloc, scene, pair, encounter, true)?;
-    let open_help = help_value(alloc, scene, pair, encounter, false)?;
-    let outstanding = outstanding_of(alloc, scene, pair, encounter)?;
-    let parting = parting_of(alloc, scene, pair, encounter)?;
+    let advice = advice_of(alloc, scene, pair, encounter)?;
     let refused = access_value(
         alloc,
         scene,
@@ -108,10 +97,7 @@ pub(crate) fn race_of(
     Ok(Race {
         reason: pair.lines.reason,
         spawn: pair.spawn,
-        sure_help,
-        open_help,
-        outstanding,
-        parting,
+        advice,
         refused,
         witness,
     })
@@ -156,23 +142,12 @@ fn begin_race(alloc: Global, race: &Race) -> Object
 {
     Object::new(alloc)
         .with_made("kind", kind_value(alloc, race.reason))
-        .with_made("outstanding", race.outstanding.clone())
-        .with_made("parting", race.parting.clone())
+        .with_made("outstanding", race.advice.outstanding.clone())
+        .with_made("parting", race.advice.parting.clone())
         .with_made("refused", race.refused.clone())
         .with_made("witness", race.witness.clone())
         .with_text("rule", rule_word(race.reason))
-        .with("spawn_line", count_or_null(race.spawn))
-}
-
-/// What orders the two, by whether a sync is sure to.
-fn help_of(race: &Race, is_sure: bool) -> &Value
-    ensures { view result.now ≡ (if is_sure then (race_parts race.now).sure_help else (race_parts race.now).open_help) }
-{
-    if is_sure {
-        &race.sure_help
-    } else {
-        &race.open_help
-    }
+        .with("spawn_line", Value::from(race.spawn))
 }
 
 /// All that is told of a pair, with the names of what it raced on, how often, the number of its group, and whether a sync orders all of it.
@@ -187,7 +162,7 @@ pub(crate) fn race_value(
     ensures { IfOk result (λ value. view value ≡ race_told (race_parts race.now) (map (λ (name : Vec ℕ). name.items) names.now.keys) times group is_sure) }
 {
     begin_race(alloc, race)
-        .with_made("help", help_of(race, is_sure).clone())
+        .with_made("help", race.advice.help(is_sure).clone())
         .with_made("locations", names_value(alloc, names))
         .with("times", Value::from(times))
         .with("group", Value::from(group))

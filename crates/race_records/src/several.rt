@@ -16,6 +16,7 @@ ghost use Rattle.race_records.specs.RaceViews.{race_parts};
 ghost use Rattle.race_records.specs.SummaryViews.{summary_parts};
 ghost use Rattle.race_records.specs.Several.{with_race, IsRace, AddsKept, nothing_recorded, untold_told, untold_in, AddsPairs, AddsTrace};
 ghost use Rattle.race_records.specs.Several.{found_told, found_at, found_places, found_group, found_groups, races_told, all_of, outcome_of, summary_recorded, recorded_told};
+ghost use Rattle.race_records.specs.Keeping.{AddsPair};
 ghost use Rattle.race_records.specs.SeveralViews.{kept_of, recorded_of};
 
 use crate::document::{Outcome, Summary, document_value};
@@ -95,6 +96,26 @@ fn pair_race(
     race_of(alloc, scene, &race.pair, &encounter)
 }
 
+/// Adds a pair of the trace with this number.
+fn keep_pair(
+    alloc: Global,
+    scene: &Scene<'_, '_>,
+    trace: usize,
+    race: &race_pairs::Race,
+    findings: &mut FindingList,
+    races: &mut Vec<Race>,
+) -> Result<(), AllocError>
+    requires race { (entries : List Entry) × IsRaceOf entries scene.now.digest.now race.now }
+    requires trace { IsOfTrace (setting_of scene.now).origin }
+    ensures { OnOk result ((entries : List Entry) → IsRaceOf entries scene.now.digest.now race.now →
+        AddsPair (setting_of scene.now) trace entries (kept_of findings.old races.old.items) race.now.pair
+        (kept_of findings.new races.new.items)) }
+{
+    let finding = finding_of(alloc, scene, trace, race)?;
+    let told = pair_race(alloc, scene, race)?;
+    keep(findings, races, finding, told)
+}
+
 /// Adds pairs of the trace with this number.
 fn keep_all(
     alloc: Global,
@@ -111,9 +132,7 @@ fn keep_all(
         (kept_of findings.new races.new.items)) }
 {
     for race in found {
-        let finding = finding_of(alloc, scene, trace, race)?;
-        let told = pair_race(alloc, scene, race)?;
-        keep(findings, races, finding, told)?;
+        keep_pair(alloc, scene, trace, race, findings, races)?;
     }
     Ok(())
 }

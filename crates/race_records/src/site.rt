@@ -9,7 +9,7 @@ ghost use Rattle.race_explanations.specs.Scenes.{setting_of};
 ghost use Rattle.race_records.specs.Sites.{number_of, number_behind, location_by, location_of, marked_site, site_in, line_of_file, parts_told, site_told};
 ghost use Rattle.race_records.specs.SiteViews.{location_parts, site_parts};
 
-use crate::value::{count_or_null, text_or_null};
+use crate::value::text_or_null;
 use race_explanations::{Origin, Scene, function_in};
 use sarif_logs::Object;
 use serde_json::Value;
@@ -157,8 +157,8 @@ fn site_value(alloc: Global, site: Site<'_>) -> Result<Value, AllocError>
         .with_made("code", text_or_null(alloc, site.code))
         .with_made("file", text_or_null(alloc, bytes_of(site.file)))
         .with_made("function", text_or_null(alloc, bytes_of(site.function)))
-        .with("column", count_or_null(site.column))
-        .with("line", count_or_null(site.line))
+        .with("column", Value::from(site.column))
+        .with("line", Value::from(site.line))
         .finish()
 }
 

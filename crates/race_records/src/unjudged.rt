@@ -1,6 +1,6 @@
 //! What is told of a text that means nothing, and of an illegal request.
 
-ghost use Rattle.std.specs.Prelude.{◌≡◌, ◌++◌, List, IfOk, OnOk, map};
+ghost use Rattle.std.specs.Prelude.{◌≡◌, ◌++◌, ◌∷◌, List, IfOk, OnOk, map};
 ghost use Rattle.serde_json.specs.Data.{Data};
 ghost use Rattle.text_words.specs.Text.{lines};
 ghost use Rattle.trace_text.specs.Traces.{contents as trace_contents};
@@ -90,6 +90,25 @@ fn push_faults(
     push_faults(alloc, values, file, text, source, meant, rest)
 }
 
+/// A fault and those behind it.
+fn fault_values(
+    alloc: Global,
+    file: &str,
+    text: &[u8],
+    source: &Source<'_>,
+    meant: Meant,
+    first: Fault,
+    others: &[Fault],
+) -> Result<Vec<Value>, AllocError>
+    requires { source.now ≡ lines text.now }
+    ensures { IfOk result (λ values. RecordsFaults file.now source.now (first ∷ others.now) (map view values.items)) }
+{
+    let mut values = Vec::new(alloc);
+    values.push(fault_value(alloc, file, text, source, meant, first)?)?;
+    push_faults(alloc, &mut values, file, text, source, meant, others)?;
+    Ok(values)
+}
+
 /// The faults of a text, as one value.
 fn faulty_value(alloc: Global, faults: Vec<Value>, is_more: bool) -> Result<Value, AllocError>
     ensures { IfOk result (λ value. view value ≡ faulty_told (map view faults.items) is_more) }
@@ -117,18 +136,9 @@ pub fn faults_record(
 {
     let source = Source::new(alloc, text)?;
     let others = list_others(alloc, meant, text, first)?;
-    let mut values = Vec::new(alloc);
-    values.push(fault_value(alloc, file, text, &source, meant, first)?)?;
-    push_faults(
-        alloc,
-        &mut values,
-        file,
-        text,
-        &source,
-        meant,
-        others.faults.as_slice(),
-    )?;
-    let document = faulty_value(alloc, values, others.is_more)?;
+    let behind = others.faults.as_slice();
+    let faults = fault_values(alloc, file, text, &source, meant, first, behind)?;
+    let document = faulty_value(alloc, faults, others.is_more)?;
     record_text(alloc, form, &document)
 }
 

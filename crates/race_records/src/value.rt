@@ -1,9 +1,9 @@
-//! Texts, numbers and lists as values.
+//! Texts and lists as values.
 
 ghost use Rattle.std.specs.Prelude.{◌≡◌, IfOk, map, string_bytes};
 ghost use Rattle.std.specs.Option.{option_map};
 ghost use Rattle.serde_json.specs.View.{view};
-ghost use Rattle.race_records.specs.Values.{text_told, text_or_null, number_or_null, list_told, IsTextOf};
+ghost use Rattle.race_records.specs.Values.{text_told, text_or_null, list_told, IsTextOf};
 
 use serde_json::Value;
 use std::alloc::{AllocError, Global};
@@ -22,26 +22,6 @@ pub(crate) fn text_or_null(alloc: Global, text: Option<&[u8]>) -> Result<Value, 
     match text {
         Some(text) => text_value(alloc, text),
         None => Ok(Value::Null),
-    }
-}
-
-/// A number, where there is one.
-pub(crate) fn count_or_null(count: Option<u32>) -> Value
-    ensures { view result ≡ number_or_null count }
-{
-    match count {
-        Some(count) => Value::from(count),
-        None => Value::Null,
-    }
-}
-
-/// How many there are, where it is known.
-pub(crate) fn size_or_null(count: Option<usize>) -> Value
-    ensures { view result ≡ number_or_null count }
-{
-    match count {
-        Some(count) => Value::from(count),
-        None => Value::Null,
     }
 }
 

@@ -1,9 +1,7 @@
-use Rattle.std.proofs.Common.{rules, List, map, ap, ap₂, subst, ◌∙◌, string_bytes, take}
+use Rattle.std.proofs.Common.{rules, List, map, ap, ◌∙◌, string_bytes, take}
 use Rattle.std.proofs.lemmas.Result.{IfOk-weaker}
 use Rattle.serde_json.specs.View.{view}
 use Rattle.model_histories.specs.declared.answer.Entry.{Entry}
-use Rattle.race_pairs.specs.declared.race.Race.{Race}
-use Rattle.race_pairs.specs.Groups.{AreGroups}
 use Rattle.race_pairs.specs.Digests.{IsDigest}
 use Rattle.race_pairs.proofs.Knowing.{knows_count}
 use Rattle.race_pairs.proofs.Digesting.{races_now}
@@ -11,7 +9,6 @@ use Rattle.race_explanations.specs.Scenes.{setting_of}
 use Rattle.race_records.specs.Values.{IsTextOf}
 use Rattle.race_records.specs.Forms.{in_form}
 use Rattle.race_records.specs.WarnedViews.{warned_parts}
-use Rattle.race_records.specs.Races.{groups_told}
 use Rattle.race_records.specs.Documents.{EndParts, summary_of, RecordsEntries}
 use Rattle.race_records.specs.SummaryViews.{summary_parts}
 use Rattle.race_records.proofs.Recording.{entries_recorded}
@@ -21,8 +18,6 @@ pub returns : goal.returns
 returns c =
     let digest = c.args.scene.now.digest.now in
     let setting = setting_of c.args.scene.now in
-    let cases = c.in_ok-cases.cases.items in
-    let groups = c.in_ok-groups.groups.items in
     let end : EndParts = record {
       outcome = c.args.outcome;
       traces = c.args.traces;
@@ -35,12 +30,9 @@ returns c =
     (λ text is entries d.
     let kept = races_now entries digest d in
     let counted = knows_count digest.races.known kept.pairs kept.knows in
-    entries_recorded c.args.form c.args.extent setting entries end kept.pairs digest.races.list.items cases groups
+    entries_recorded c.args.form c.args.extent setting entries end kept.pairs digest.races.list.items
     _ (map view c.new-untold.result.items) (summary_parts c.summary_of-summary.result) _ _ kept.are.are_pairs
     (kept.are.first ∙ ap (λ most. take most kept.pairs) c.requires.most)
-    (c.in_ok-cases.ensures entries d)
-    (subst (λ (some : List Race). AreGroups some groups) c.races.ensures c.in_ok-groups.ensures)
-    (c.in_ok-races.ensures ∙ ap₂ (λ some these. groups_told setting some 1 these) c.as_slice.ensures.value c.as_slice-2.ensures.value)
-    (search rules)
+    (c.in_ok-races.ensures entries d) (search rules)
     (c.summary_of-summary.ensures entries d ∙ ap (summary_of c.args.outcome c.args.traces entries) counted) c.in_ok-document.ensures is)
     c.record_text.ensures

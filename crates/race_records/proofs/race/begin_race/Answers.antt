@@ -1,6 +1,7 @@
 use Rattle.std.proofs.Common.{refl, ap}
 use Rattle.serde_json.specs.Data.{string}
 use Rattle.sarif_logs.proofs.Objects.{begins, puts, told_as}
+use Rattle.race_records.proofs.Optional.{number_told}
 use Rattle.race_records.proofs.Copied.{copied}
 use Rattle.race_records.proofs.race.begin_race.Goals as goal
 
@@ -12,4 +13,4 @@ returns c =
     let refused = puts _ _ _ parting (copied _ c.clone-3.ensures.cases refl) c.with_made-4.ensures in
     let witness = puts _ _ _ refused (copied _ c.clone-4.ensures.cases refl) c.with_made-5.ensures in
     let rule = puts _ _ _ witness (ap string c.rule_word.ensures) c.with_text.ensures in
-    puts _ _ _ rule c.count_or_null.ensures c.with.ensures
+    puts _ _ _ rule (number_told _ c.from.ensures) c.with.ensures

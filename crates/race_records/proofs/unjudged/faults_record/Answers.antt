@@ -11,8 +11,7 @@ pub returns : goal.returns
 returns c =
     IfOk-weaker c.record_text.result (λ text. IsTextOf (in_form c.args.form (view c.in_ok-document.document)) text.items)
     (λ text. RecordsText c.args.form c.args.file.now c.args.meant c.args.text.now c.args.first text.items)
-    (λ text is. text_recorded c.args.form c.args.file.now c.args.meant c.args.text.now c.args.first c.in_ok-source.source c.as_slice.result.now c.in_ok-others.others.faults.items
-    c.in_ok-others.others.is_more _ _ _ c.in_ok-push_faults.ensures.0 (view c.in_ok-document.document) text.items
-    c.in_ok-others.ensures (search rules) c.in_ok-source.ensures c.in_ok-fault_value.ensures (search rules) c.in_ok-push_faults.ensures.1 c.in_ok-push_faults.ensures.2
-    c.in_ok-document.ensures is)
+    (λ text is. text_recorded c.args.form c.args.file.now c.args.meant c.args.text.now c.args.first c.in_ok-source.source c.as_slice-behind.result.now
+    c.in_ok-others.others.faults.items c.in_ok-others.others.is_more _ (view c.in_ok-document.document) text.items
+    c.in_ok-others.ensures (search rules) c.in_ok-source.ensures c.in_ok-faults.ensures c.in_ok-document.ensures is)
     c.record_text.ensures
