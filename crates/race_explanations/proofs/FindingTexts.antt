@@ -18,6 +18,20 @@ use Rattle.model_histories.specs.declared.answer.Entry.{Entry}
 use Rattle.race_pairs.specs.Encounters.{IsEncounter}
 use Rattle.race_explanations.specs.Findings.{kind_text, name_text, body_text, help_text, own_text, IsOfTrace, IsFinding}
 
+-- the accesses and where they part, told together
+pub grouped : (setting : Setting) (pair : Pair) (places : List ℕ) (encounter : Encounter) (help : List ℕ) →
+    title_text setting pair places ++ body_text setting pair encounter ++ help ++ codes "\n" ≡
+    title_text setting pair places ++ earlier_text pair.lines.reason setting pair encounter ++ refused_text setting pair encounter ++
+    (where_text pair.lines.reason setting pair encounter ++ help) ++ codes "\n"
+grouped setting pair places encounter help =
+    let title = title_text setting pair places in
+    let earlier = earlier_text pair.lines.reason setting pair encounter in
+    let refused = refused_text setting pair encounter in
+    let apart = where_text pair.lines.reason setting pair encounter in
+    let body : title ++ body_text setting pair encounter ≡ title ++ earlier ++ refused ++ apart =
+    sym (append_assoc title (earlier ++ refused) apart) ∙ ap (λ t. t ++ apart) (sym (append_assoc title earlier refused)) in
+    ap (λ t. t ++ codes "\n") (ap (λ t. t ++ help) body ∙ append_assoc (title ++ earlier ++ refused) apart help)
+
 regrouped : (k n l s c z e r w h b : List ℕ) →
     k ++ n ++ l ++ s ++ c ++ z ++ (e ++ r ++ w) ++ h ++ b ≡ k ++ (n ++ l) ++ s ++ c ++ z ++ [] ++ e ++ r ++ (w ++ h) ++ b
 regrouped k n l s c z e r w h b =

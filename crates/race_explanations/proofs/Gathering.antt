@@ -1,12 +1,16 @@
 -- The cases of races, one by one; and what is told of items that are listed one by one.
-use Rattle.std.proofs.Common.{◌≡◌, ℕ, ◌+◌, ◌<◌, List, [], ◌∷◌, ◌++◌, length, take, map, get_or, sym, subst, ap, ◌∙◌, append-nil, append_assoc, flat_map, arith}
+use Rattle.std.proofs.Common.{◌≡◌, ℕ, ◌+◌, ◌<◌, List, [], ◌∷◌, ◌++◌, length, take, map, get_or, sym, subst, ap, ◌∙◌, append-nil, append_assoc, flat_map, refl, arith}
 use Rattle.std.proofs.lemmas.Grind.{flat_map-append}
 use Rattle.std.proofs.lemmas.List.{take_more, length-map, get_or-map}
+use Rattle.std.proofs.lemmas.Option.{slice_get_read}
 use Rattle.model_histories.specs.declared.answer.Entry.{Entry}
 use Rattle.race_pairs.specs.declared.race.Pair.{Pair}
 use Rattle.race_pairs.specs.declared.race.Race.{Race}
 use Rattle.race_explanations.specs.declared.case.Case.{Case}
-use Rattle.race_explanations.specs.Cases.{IsCase, AreCases, none, more}
+use Rattle.race_explanations.specs.declared.case.Course.{Course}
+use Rattle.race_explanations.specs.Settings.{Setting}
+use Rattle.race_explanations.specs.Cases.{IsCase, AreCases, none, more, course_of}
+use Rattle.race_explanations.specs.Groups.{course_if, course_at}
 
 -- no pair
 pub no_cases : (entries : List Entry) (cases : List Case) → cases ≡ [] → AreCases entries [] cases
@@ -48,3 +52,11 @@ pub listed_behind : {X Y : Type 0} (f : X → List Y) (items : List X) (index : 
 listed_behind f items index d front old new below before is =
     is ∙ ap (λ t. t ++ f (get_or items index d)) before ∙ append_assoc front (flat_map f (take index items)) (f (get_or items index d)) ∙
     ap (λ t. front ++ t) (sym (listed_more f items index d below))
+
+-- the course of the case at a place
+pub course_here : (setting : Setting) (cases : List Case) (place : ℕ) (case : Case) (course : Course) (old new : List Course) →
+    place < length cases → case ≡ get_or cases place case → course ≡ course_of setting case.encounter → new ≡ old ++ course ∷ [] →
+    new ≡ old ++ course_at setting cases place
+course_here setting cases place case course old new below at told is =
+    is ∙ ap (λ courses. old ++ courses) (ap (λ one. one ∷ []) told ∙
+    ap (course_if setting) (sym (slice_get_read cases (length cases) place case refl below at)))

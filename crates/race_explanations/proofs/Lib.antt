@@ -4,6 +4,7 @@ pub mod Merging
 mod Placing
 mod TraceAdding
 pub mod FindingTexts
+mod Functions
 mod Named
 mod OrderedGroups
 mod OrderedFindings

@@ -10,6 +10,7 @@ pub mod Advice
 pub mod Messages
 pub mod Groups
 pub mod SharedSyncs
+pub mod Pieces
 pub mod Leads
 pub mod FindingTexts
 pub mod FoundGroups

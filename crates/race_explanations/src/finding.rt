@@ -5,19 +5,20 @@ ghost use Rattle.std.specs.BTreeMap.{get};
 ghost use Rattle.model_histories.specs.declared.answer.Entry.{Entry};
 ghost use Rattle.race_pairs.specs.Digests.{IsDigest, most_of};
 ghost use Rattle.race_pairs.specs.Encounters.{IsRaceOf, AreRacesOf};
+ghost use Rattle.text_buffers.specs.Builders.{Adds};
 ghost use Rattle.race_explanations.specs.Scenes.{setting_of};
-ghost use Rattle.race_explanations.specs.Findings.{kind_text, name_text, body_text, help_text, own_text, IsOfTrace, IsFinding};
+ghost use Rattle.race_explanations.specs.Findings.{name_text, IsOfTrace, IsFinding};
 ghost use Rattle.race_explanations.specs.Findings.{numbered_trace, AddsAll, AddsPairs};
 ghost use Rattle.race_explanations.specs.ToldPlaces.{told_of, told_cmp, IsToldAs};
 
 use crate::case::course_of;
 use crate::lead::{Lead, lead_of};
 use crate::merge::FindingList;
-use crate::message::{push_earlier, push_help, push_own_help, push_refused, push_where};
+use crate::message::{push_body, push_help, push_own_help};
+use crate::pieces::Pieces;
 use crate::scene::Scene;
-use crate::title::{display_names, push_list, push_reason, sort_word};
-use race_pairs::{Encounter, Pair, Race, Reason};
-use source_quotes::{Paint, push_painted};
+use crate::title::{display_names, push_kind, push_list};
+use race_pairs::{Encounter, Race, Reason};
 use std::alloc::{AllocError, Global};
 use std::collections::{BTreeMap, BTreeSet};
 use text_buffers::TextBuilder;
@@ -142,75 +143,18 @@ impl Finding {
     }
 }
 
-/// The kind of the race, and what was wrong.
-fn kind_of(alloc: Global, scene: &Scene<'_, '_>, reason: Reason) -> Result<Vec<u8>, AllocError>
-    ensures { IfOk result (λ text. text.items ≡ kind_text (setting_of scene.now) reason) }
-{
-    let mut text = TextBuilder::new(alloc);
-    push_painted(&mut text, scene.look, Paint::Red, sort_word(reason));
-    text.push_words(": ");
-    push_reason(&mut text, reason);
-    text.end()
-}
-
-/// The first of the places on which it was.
-fn name_of(
+/// Adds the first of the cells or reducers on which it was.
+fn push_first_name(
     alloc: Global,
+    text: &mut TextBuilder,
     scene: &Scene<'_, '_>,
     reason: Reason,
     places: &[u32],
-) -> Result<Vec<u8>, AllocError>
-    ensures { IfOk result (λ text. text.items ≡ name_text (setting_of scene.now) reason places.now) }
+)
+    ensures { Adds text.old (name_text (setting_of scene.now) reason places.now) text.new }
 {
     let (first, _) = places.split_at(places.len().min(1));
-    let mut text = TextBuilder::new(alloc);
-    push_list(alloc, &mut text, scene, reason, first);
-    text.end()
-}
-
-/// The two accesses with what led there, and where they part.
-fn body_of(
-    alloc: Global,
-    scene: &Scene<'_, '_>,
-    pair: &Pair,
-    encounter: &Encounter,
-) -> Result<Vec<u8>, AllocError>
-    ensures { IfOk result (λ text. text.items ≡ body_text (setting_of scene.now) pair.now encounter.now) }
-{
-    let mut text = TextBuilder::new(alloc);
-    push_earlier(&mut text, scene, pair, encounter);
-    push_refused(&mut text, scene, pair, encounter);
-    push_where(&mut text, scene, pair, encounter);
-    text.end()
-}
-
-/// What orders the two, by whether a sync is sure to.
-fn help_text(
-    alloc: Global,
-    scene: &Scene<'_, '_>,
-    pair: &Pair,
-    encounter: &Encounter,
-    is_sure: bool,
-) -> Result<Vec<u8>, AllocError>
-    ensures { IfOk result (λ text. text.items ≡ help_text (setting_of scene.now) pair.now encounter.now is_sure) }
-{
-    let mut text = TextBuilder::new(alloc);
-    push_help(&mut text, scene, pair, encounter, is_sure);
-    text.end()
-}
-
-/// What orders the two where what orders all of a group is told once.
-fn own_text(
-    alloc: Global,
-    scene: &Scene<'_, '_>,
-    pair: &Pair,
-    encounter: &Encounter,
-) -> Result<Vec<u8>, AllocError>
-    ensures { IfOk result (λ text. text.items ≡ own_text (setting_of scene.now) pair.now encounter.now) }
-{
-    let mut text = TextBuilder::new(alloc);
-    push_own_help(&mut text, scene, pair, encounter);
-    text.end()
+    push_list(alloc, text, scene, reason, first);
 }
 
 /// The finding of a pair of places of the trace with this number.
@@ -229,16 +173,28 @@ pub fn finding_of(
     let pair = &race.pair;
     let places = race.places.as_slice();
     let reason = pair.lines.reason;
-    let kind = kind_of(alloc, scene, reason)?;
-    let name = name_of(alloc, scene, reason, places)?;
+    let lead = lead_of(
+        alloc,
+        scene,
+        trace,
+        pair.spawn,
+        course_of(scene, &encounter),
+    )?;
     let names = display_names(alloc, scene, reason, places)?;
-    let body = body_of(alloc, scene, pair, &encounter)?;
-    let sure_help = help_text(alloc, scene, pair, &encounter, true)?;
-    let open_help = help_text(alloc, scene, pair, &encounter, false)?;
-    let own_help = own_text(alloc, scene, pair, &encounter)?;
-    let course = course_of(scene, &encounter);
-    let lead = lead_of(alloc, scene, trace, pair.spawn, course)?;
-    Ok(Finding {
+    let mut pieces = Pieces::new(alloc);
+    push_kind(&mut pieces.text, scene, reason);
+    let kind = pieces.cut();
+    push_first_name(alloc, &mut pieces.text, scene, reason, places);
+    let name = pieces.cut();
+    push_body(&mut pieces.text, scene, pair, &encounter);
+    let body = pieces.cut();
+    push_help(&mut pieces.text, scene, pair, &encounter, true);
+    let sure_help = pieces.cut();
+    push_help(&mut pieces.text, scene, pair, &encounter, false);
+    let open_help = pieces.cut();
+    push_own_help(&mut pieces.text, scene, pair, &encounter);
+    let own_help = pieces.cut();
+    let finding = Finding {
         kind,
         name,
         names,
@@ -248,7 +204,9 @@ pub fn finding_of(
         open_help,
         own_help,
         lead,
-    })
+    };
+    pieces.end()?;
+    Ok(finding)
 }
 
 /// Adds the findings of pairs of the trace with this number.

@@ -1,20 +1,17 @@
 //! Where the two strands of a finding part, in pieces, so that findings of several traces that part at one spawn are told together.
 
-ghost use Rattle.std.specs.Prelude.{◌≡◌, ◌++◌, Some, IfOk, MatchOption};
+ghost use Rattle.std.specs.Prelude.{IfOk};
 ghost use Rattle.race_explanations.specs.Scenes.{setting_of};
-ghost use Rattle.race_explanations.specs.Paths.{line_words};
-ghost use Rattle.race_explanations.specs.Advice.{help_begun, sync_place, rounds_note};
-ghost use Rattle.race_explanations.specs.Groups.{beside_text};
 ghost use Rattle.race_explanations.specs.Leads.{IsLead, IsLeadOf};
 
 use crate::advice::{begin_help, push_rounds, push_sync_place};
 use crate::case::Course;
 use crate::group::push_beside;
 use crate::paths::push_line;
+use crate::pieces::Pieces;
 use crate::scene::Scene;
 use crate::words::are_in_one_call;
 use std::alloc::{AllocError, Global};
-use text_buffers::TextBuilder;
 
 /// The spawn at which the two strands of a finding part.
 pub struct Lead {
@@ -52,53 +49,6 @@ impl Drop for Lead {
     }
 }
 
-/// What a line is told as.
-fn line_text(alloc: Global, scene: &Scene<'_, '_>, line: u32) -> Result<Vec<u8>, AllocError>
-    ensures { IfOk result (λ text. text.items ≡ line_words (setting_of scene.now).origin line) }
-{
-    let mut text = TextBuilder::new(alloc);
-    push_line(&mut text, scene, line);
-    text.end()
-}
-
-/// Beside what runs what is spawned on a line.
-fn beside_text(
-    alloc: Global,
-    scene: &Scene<'_, '_>,
-    line: u32,
-    course: Course,
-) -> Result<Vec<u8>, AllocError>
-    ensures { IfOk result (λ text. text.items ≡ beside_text (setting_of scene.now) line (Some course)) }
-{
-    let mut text = TextBuilder::new(alloc);
-    push_beside(&mut text, scene, line, Some(course));
-    text.end()
-}
-
-/// A sync in the function that spawns on a line, before it goes on to another line.
-fn sync_text(
-    alloc: Global,
-    scene: &Scene<'_, '_>,
-    line: u32,
-    onward: u32,
-) -> Result<Vec<u8>, AllocError>
-    ensures { IfOk result (λ text. text.items ≡ help_begun (setting_of scene.now) ++ sync_place (setting_of scene.now) line onward) }
-{
-    let mut text = TextBuilder::new(alloc);
-    begin_help(&mut text, scene);
-    push_sync_place(&mut text, scene, line, onward);
-    text.end()
-}
-
-/// What would order the rounds of a loop.
-fn rounds_text(alloc: Global, scene: &Scene<'_, '_>) -> Result<Vec<u8>, AllocError>
-    ensures { IfOk result (λ text. text.items ≡ rounds_note (setting_of scene.now)) }
-{
-    let mut text = TextBuilder::new(alloc);
-    push_rounds(&mut text, scene);
-    text.end()
-}
-
 /// The spawn on a line, at which two strands of the trace with this number part, whose spawner goes on so.
 fn lead_at(
     alloc: Global,
@@ -109,12 +59,19 @@ fn lead_at(
 ) -> Result<Lead, AllocError>
     ensures { IfOk result (IsLead (setting_of scene.now) trace line course) }
 {
-    let spawn = line_text(alloc, scene, line)?;
-    let onward = line_text(alloc, scene, course.line)?;
-    let beside = beside_text(alloc, scene, line, course)?;
-    let sync = sync_text(alloc, scene, line, course.line)?;
-    let rounds = rounds_text(alloc, scene)?;
-    Ok(Lead {
+    let mut pieces = Pieces::new(alloc);
+    push_line(&mut pieces.text, scene, line);
+    let spawn = pieces.cut();
+    push_line(&mut pieces.text, scene, course.line);
+    let onward = pieces.cut();
+    push_beside(&mut pieces.text, scene, line, Some(course));
+    let beside = pieces.cut();
+    begin_help(&mut pieces.text, scene);
+    push_sync_place(&mut pieces.text, scene, line, course.line);
+    let sync = pieces.cut();
+    push_rounds(&mut pieces.text, scene);
+    let rounds = pieces.cut();
+    let lead = Lead {
         spawn,
         onward,
         beside,
@@ -123,7 +80,9 @@ fn lead_at(
         is_within: are_in_one_call(scene, line, course.line),
         trace,
         course,
-    })
+    };
+    pieces.end()?;
+    Ok(lead)
 }
 
 /// The spawn on a line, where two strands part at one.

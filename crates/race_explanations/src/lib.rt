@@ -24,6 +24,7 @@ mod lead;
 mod merge;
 mod message;
 mod paths;
+mod pieces;
 mod scene;
 mod settings;
 mod title;

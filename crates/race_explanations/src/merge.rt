@@ -96,10 +96,9 @@ impl FindingList {
         requires { place_of is_same (map told_of self.old) (told_of other) ≡ None }
         ensures { OnOk result (self.new ≡ self.old ++ other ∷ []) }
     {
-        let told = other.copy_told()?;
-        let count = self.list.len();
         self.list.reserve(1)?;
-        self.places.insert(told, count)?;
+        let told = other.copy_told()?;
+        self.places.insert(told, self.list.len())?;
         self.list.push_reserved(other);
         Ok(())
     }

@@ -7,6 +7,7 @@ ghost use Rattle.race_explanations.specs.Scenes.{setting_of};
 ghost use Rattle.race_explanations.specs.Advice.{help_note, sync_help_of, move_help_of};
 ghost use Rattle.race_explanations.specs.Messages.{witness_text, earlier_text, where_text, help_of, own_help_of};
 ghost use Rattle.race_explanations.specs.Messages.{verdict_words, refused_text, case_text, member_text};
+ghost use Rattle.race_explanations.specs.Findings.{body_text};
 
 use crate::advice::{
     line_on, move_help, push_between, push_move_note, push_opened, push_parted, push_put_note,
@@ -43,12 +44,7 @@ fn push_witness(text: &mut TextBuilder, scene: &Scene<'_, '_>, pair: &Pair, enco
 }
 
 /// Adds what is told of the earlier access, where there is one.
-pub(crate) fn push_earlier(
-    text: &mut TextBuilder,
-    scene: &Scene<'_, '_>,
-    pair: &Pair,
-    encounter: &Encounter,
-)
+fn push_earlier(text: &mut TextBuilder, scene: &Scene<'_, '_>, pair: &Pair, encounter: &Encounter)
     ensures { Adds text.old (earlier_text pair.now.lines.reason (setting_of scene.now) pair.now encounter.now) text.new }
 {
     match pair.lines.reason {
@@ -58,12 +54,7 @@ pub(crate) fn push_earlier(
 }
 
 /// Adds the refused access, and what led there.
-pub(crate) fn push_refused(
-    text: &mut TextBuilder,
-    scene: &Scene<'_, '_>,
-    pair: &Pair,
-    encounter: &Encounter,
-)
+fn push_refused(text: &mut TextBuilder, scene: &Scene<'_, '_>, pair: &Pair, encounter: &Encounter)
     ensures { Adds text.old (refused_text (setting_of scene.now) pair.now encounter.now) text.new }
 {
     push_access(text, scene, pair.first, Some(encounter.refused), b'^');
@@ -72,12 +63,7 @@ pub(crate) fn push_refused(
 }
 
 /// Adds where the two strands of a race part, and of a view-read race which spawn is outstanding at one of them alone.
-pub(crate) fn push_where(
-    text: &mut TextBuilder,
-    scene: &Scene<'_, '_>,
-    pair: &Pair,
-    encounter: &Encounter,
-)
+fn push_where(text: &mut TextBuilder, scene: &Scene<'_, '_>, pair: &Pair, encounter: &Encounter)
     ensures { Adds text.old (where_text pair.now.lines.reason (setting_of scene.now) pair.now encounter.now) text.new }
 {
     let refused = encounter.refused.strand;
@@ -91,6 +77,20 @@ pub(crate) fn push_where(
         },
         Reason::Unset => {}
     }
+}
+
+/// Adds the two accesses with what led there, and where they part.
+pub(crate) fn push_body(
+    text: &mut TextBuilder,
+    scene: &Scene<'_, '_>,
+    pair: &Pair,
+    encounter: &Encounter,
+)
+    ensures { Adds text.old (body_text (setting_of scene.now) pair.now encounter.now) text.new }
+{
+    push_earlier(text, scene, pair, encounter);
+    push_refused(text, scene, pair, encounter);
+    push_where(text, scene, pair, encounter);
 }
 
 /// Adds what would order the two of one of several races that part at one spawn, where it is not told of all of them.
@@ -207,9 +207,7 @@ pub(crate) fn push_case(
     let pair = &case.race.pair;
     let encounter = &case.encounter;
     push_title(alloc, text, scene, pair, case.race.places.as_slice());
-    push_earlier(text, scene, pair, encounter);
-    push_refused(text, scene, pair, encounter);
-    push_where(text, scene, pair, encounter);
+    push_body(text, scene, pair, encounter);
     push_help(text, scene, pair, encounter, is_sure);
     text.push_words("\n");
 }
@@ -226,9 +224,7 @@ pub(crate) fn push_member(
     let pair = &case.race.pair;
     let encounter = &case.encounter;
     push_title(alloc, text, scene, pair, case.race.places.as_slice());
-    push_earlier(text, scene, pair, encounter);
-    push_refused(text, scene, pair, encounter);
-    push_where(text, scene, pair, encounter);
+    push_body(text, scene, pair, encounter);
     push_own_help(text, scene, pair, encounter);
     text.push_words("\n");
 }

@@ -7,6 +7,7 @@ ghost use Rattle.text_buffers.specs.Builders.{Adds};
 ghost use Rattle.race_explanations.specs.Scenes.{setting_of};
 ghost use Rattle.race_explanations.specs.Titles.{sort_word, reason_words, name_of_place, noted_name, told_name, spaced_name, other_names};
 ghost use Rattle.race_explanations.specs.Titles.{listed_names, told_names, name_count, most_names, left_out, names_text, headline, title_text};
+ghost use Rattle.race_explanations.specs.Findings.{kind_text};
 
 use crate::scene::{Origin, Scene};
 use access_table::word;
@@ -19,7 +20,7 @@ use trace_notes::Notes;
 use trace_text::{put_cell, put_word, reducer_name};
 
 /// The sort of a refusal.
-pub(crate) fn sort_word(reason: Reason) -> &'static str
+fn sort_word(reason: Reason) -> &'static str
     ensures { result.now ≡ sort_word reason }
 {
     match reason {
@@ -30,7 +31,7 @@ pub(crate) fn sort_word(reason: Reason) -> &'static str
 }
 
 /// Adds what was wrong.
-pub(crate) fn push_reason(text: &mut TextBuilder, reason: Reason)
+fn push_reason(text: &mut TextBuilder, reason: Reason)
     ensures { Adds text.old (reason_words reason) text.new }
 {
     match reason {
@@ -225,6 +226,15 @@ fn push_names(
     push_rest(alloc, text, scene, reason, places, most);
 }
 
+/// Adds the kind of the race, and what was wrong.
+pub(crate) fn push_kind(text: &mut TextBuilder, scene: &Scene<'_, '_>, reason: Reason)
+    ensures { Adds text.old (kind_text (setting_of scene.now) reason) text.new }
+{
+    push_painted(text, scene.look, Paint::Red, sort_word(reason));
+    text.push_words(": ");
+    push_reason(text, reason);
+}
+
 /// Adds the kind of the race, what it was on, and how often it came.
 fn push_headline(
     alloc: Global,
@@ -236,9 +246,7 @@ fn push_headline(
     ensures { Adds text.old (headline (setting_of scene.now) pair.now places.now) text.new }
 {
     let reason = pair.lines.reason;
-    push_painted(text, scene.look, Paint::Red, sort_word(reason));
-    text.push_words(": ");
-    push_reason(text, reason);
+    push_kind(text, scene, reason);
     push_names(alloc, text, scene, reason, places);
     text.push_words(", ");
     push_count(text, pair.times, "time");

@@ -1,5 +1,4 @@
-use Rattle.std.proofs.Common.{rules, arith, subst}
-use Rattle.std.proofs.lemmas.Grind.{common_steps}
+use Rattle.std.proofs.Common.{rules, subst}
 use Rattle.race_pairs.specs.declared.race.Race.{Race}
 use Rattle.race_explanations.specs.Cases.{IsCase}
 use Rattle.race_explanations.proofs.Gathering.{no_cases, race_case}
@@ -11,6 +10,6 @@ loop-race-init c = λ entries are. no_cases entries _ (search rules)
 pub loop-race-preserved : goal.loop-race-preserved
 loop-race-preserved c = λ entries are.
     race_case entries c.args.races.now c.loop-race.race-index c.race-item.result _ _ _
-    (first_of (search rules, grind (arith, common_steps))) (c.loop-race.invariant entries are)
+    c.loop-race-test.true (c.loop-race.invariant entries are)
     (subst (λ (race : Race). IsCase entries race.pair c.in_ok-case_of.field-0) c.race-item.is (c.in_ok-case_of.ensures entries (are.0, search rules)))
-    (first_of (search rules, grind (arith, common_steps)))
+    c.in_ok-push.ensures.items

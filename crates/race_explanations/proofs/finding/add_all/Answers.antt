@@ -1,5 +1,4 @@
-use Rattle.std.proofs.Common.{rules, arith, subst}
-use Rattle.std.proofs.lemmas.Grind.{common_steps}
+use Rattle.std.proofs.Common.{rules, subst}
 use Rattle.race_pairs.specs.declared.race.Race.{Race}
 use Rattle.race_explanations.specs.Findings.{numbered_trace, IsFinding}
 use Rattle.race_explanations.specs.Scenes.{setting_of}
@@ -11,6 +10,6 @@ loop-race-init c = λ entries are. none_added (numbered_trace (setting_of c.args
 
 pub loop-race-preserved : goal.loop-race-preserved
 loop-race-preserved c = λ entries are.
-    race_added (numbered_trace (setting_of c.args.scene.now) c.args.trace entries) c.args.races.now c.loop-race.race-index c.race-item.result _ _ _ _ (first_of (search rules, grind (arith, common_steps)))
+    race_added (numbered_trace (setting_of c.args.scene.now) c.args.trace entries) c.args.races.now c.loop-race.race-index c.race-item.result _ _ _ _ c.loop-race-test.true
     (c.loop-race.invariant entries are) (subst (λ (race : Race). IsFinding (setting_of c.args.scene.now) c.args.trace entries race.pair c.in_ok-finding.finding) c.race-item.is
     (c.in_ok-finding.ensures entries (are.0, search rules))) c.in_ok-join.ensures

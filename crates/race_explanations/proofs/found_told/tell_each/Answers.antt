@@ -1,6 +1,5 @@
-use Rattle.std.proofs.Common.{rules, arith, ℕ, ◌≡◌, ap, ◌∙◌, get_or}
+use Rattle.std.proofs.Common.{ℕ, ap, ◌∙◌, get_or}
 use Rattle.std.specs.Global.{Vec}
-use Rattle.std.proofs.lemmas.Grind.{common_steps}
 use Rattle.race_explanations.specs.FoundGroups.{found_group}
 use Rattle.text_buffers.proofs.Builders.{these, none_adds, one_more}
 use Rattle.race_explanations.proofs.found_told.tell_each.Goals as goal
@@ -10,10 +9,8 @@ loop-group-init c = none_adds c.args.text.now
 
 pub loop-group-preserved : goal.loop-group-preserved
 loop-group-preserved c =
-    let same : c.group-item.result ≡ get_or c.args.groups.now c.loop-group.group-index c.group-item.result =
-    first_of (search rules, grind (arith, common_steps)) in
     one_more (λ (group : Vec ℕ). found_group c.args.most c.args.findings.now group.items) c.args.groups.now c.loop-group.group-index c.group-item.result _ _ _
-    (first_of (search rules, grind (arith, common_steps))) c.loop-group.invariant
+    c.loop-group-test.true c.loop-group.invariant
     (these _ _ _ (found_group c.args.most c.args.findings.now (get_or c.args.groups.now c.loop-group.group-index c.group-item.result).items) c.tell_group.ensures
     (ap (found_group c.args.most c.args.findings.now) c.as_slice.ensures.value ∙
-    ap (λ (group : Vec ℕ). found_group c.args.most c.args.findings.now group.items) same))
+    ap (λ (group : Vec ℕ). found_group c.args.most c.args.findings.now group.items) c.group-item.is))

@@ -1,5 +1,3 @@
-use Rattle.std.proofs.Common.{rules, arith}
-use Rattle.std.proofs.lemmas.Grind.{common_steps}
 use Rattle.race_explanations.specs.FoundGroups.{found_member}
 use Rattle.text_buffers.proofs.Builders.{none_adds, one_more}
 use Rattle.race_explanations.proofs.found_told.tell_members.Goals as goal
@@ -10,4 +8,4 @@ loop-place-init c = none_adds c.args.text.now
 pub loop-place-preserved : goal.loop-place-preserved
 loop-place-preserved c =
     one_more (found_member c.args.findings.now) c.args.places.now c.loop-place.place-index _ _ _ _
-    (first_of (search rules, grind (arith, common_steps))) c.loop-place.invariant c.tell_member_at.ensures
+    c.loop-place-test.true c.loop-place.invariant c.tell_member_at.ensures

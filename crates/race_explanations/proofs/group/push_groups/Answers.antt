@@ -1,5 +1,4 @@
-use Rattle.std.proofs.Common.{rules, arith, ◌≡◌, ap, get_or}
-use Rattle.std.proofs.lemmas.Grind.{common_steps}
+use Rattle.std.proofs.Common.{ap, get_or}
 use Rattle.race_explanations.specs.Scenes.{setting_of}
 use Rattle.race_explanations.specs.Groups.{group_text}
 use Rattle.text_buffers.proofs.Builders.{these, none_adds, one_more}
@@ -11,8 +10,6 @@ loop-group-init c = none_adds c.args.text.now
 pub loop-group-preserved : goal.loop-group-preserved
 loop-group-preserved c =
     let told = group_text (setting_of c.args.scene.now) c.args.most c.args.cases.now in
-    let same : c.group-item.result ≡ get_or c.args.groups.now c.loop-group.group-index c.group-item.result =
-    first_of (search rules, grind (arith, common_steps)) in
     one_more told c.args.groups.now c.loop-group.group-index c.group-item.result _ _ _
-    (first_of (search rules, grind (arith, common_steps))) c.loop-group.invariant
-    (these _ _ _ (told (get_or c.args.groups.now c.loop-group.group-index c.group-item.result)) c.push_group.ensures (ap told same))
+    c.loop-group-test.true c.loop-group.invariant
+    (these _ _ _ (told (get_or c.args.groups.now c.loop-group.group-index c.group-item.result)) c.push_group.ensures (ap told c.group-item.is))

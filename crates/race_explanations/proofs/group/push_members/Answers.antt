@@ -1,5 +1,3 @@
-use Rattle.std.proofs.Common.{rules, arith}
-use Rattle.std.proofs.lemmas.Grind.{common_steps}
 use Rattle.race_explanations.specs.Scenes.{setting_of}
 use Rattle.race_explanations.specs.Groups.{member_at}
 use Rattle.text_buffers.proofs.Builders.{none_adds, one_more}
@@ -11,4 +9,4 @@ loop-place-init c = none_adds c.args.text.now
 pub loop-place-preserved : goal.loop-place-preserved
 loop-place-preserved c =
     one_more (member_at (setting_of c.args.scene.now) c.args.cases.now) c.args.places.now c.loop-place.place-index _ _ _ _
-    (first_of (search rules, grind (arith, common_steps))) c.loop-place.invariant c.push_member_at.ensures
+    c.loop-place-test.true c.loop-place.invariant c.push_member_at.ensures

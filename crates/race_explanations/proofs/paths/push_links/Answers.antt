@@ -1,5 +1,3 @@
-use Rattle.std.proofs.Common.{rules, arith}
-use Rattle.std.proofs.lemmas.Grind.{common_steps}
 use Rattle.race_explanations.specs.Scenes.{setting_of}
 use Rattle.race_explanations.specs.Paths.{link_text}
 use Rattle.text_buffers.proofs.Builders.{none_adds, one_more}
@@ -11,4 +9,4 @@ loop-link-init c = none_adds c.args.text.now
 pub loop-link-preserved : goal.loop-link-preserved
 loop-link-preserved c =
     one_more (link_text (setting_of c.args.scene.now)) c.args.chain.now c.loop-link.link-index _ _ _ _
-    (first_of (search rules, grind (arith, common_steps))) c.loop-link.invariant c.push_link.ensures
+    c.loop-link-test.true c.loop-link.invariant c.push_link.ensures

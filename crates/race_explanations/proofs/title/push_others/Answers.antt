@@ -1,5 +1,4 @@
-use Rattle.std.proofs.Common.{rules, arith, ◌++◌, codes}
-use Rattle.std.proofs.lemmas.Grind.{common_steps}
+use Rattle.std.proofs.Common.{◌++◌, codes}
 use Rattle.race_explanations.specs.Scenes.{setting_of}
 use Rattle.race_explanations.specs.Titles.{spaced_name}
 use Rattle.text_buffers.proofs.Builders.{none_adds, one_more, two_adds}
@@ -11,5 +10,5 @@ loop-place-init c = none_adds c.args.text.now
 pub loop-place-preserved : goal.loop-place-preserved
 loop-place-preserved c =
     one_more (λ location. codes "," ++ spaced_name (setting_of c.args.scene.now) c.args.reason location) c.args.places.now
-    c.loop-place.place-index _ _ _ _ (first_of (search rules, grind (arith, common_steps))) c.loop-place.invariant
+    c.loop-place.place-index _ _ _ _ c.loop-place-test.true c.loop-place.invariant
     (two_adds _ _ _ _ _ c.push_words.ensures c.push_name.ensures)
