@@ -111,24 +111,51 @@ const KINDS: &[Line] = &[
     (b"end", "Ok(Ends)"),
 ];
 
-/// What the lines say where `main` and `fib` are named, `main` has begun, and the registers are `n` and `t`, or where nothing is named.
-#[test]
-fn lines(rt: HostRuntime) -> Result<(), Fail> {
-    let mut functions = FunctionNames::new(rt.alloc());
+/// The lines of a text of that version say what is shown beside them, where `main` and `fib` are named, `main` has begun, and the registers
+/// are `n` and `t`.
+fn check_named(
+    rt: &impl Abort,
+    alloc: Global,
+    version: Version,
+    cases: &[Line],
+) -> Result<(), Fail> {
+    let mut functions = FunctionNames::new(alloc);
     functions.add("main")?;
     functions.add("fib")?;
     let registers = [Name::new("n"), Name::new("t")];
-    let (one, two) = (Version::One, Version::Two);
-    check(&rt, rt.alloc(), one, &functions, 1, &registers, FIRST)?;
-    check(&rt, rt.alloc(), two, &functions, 1, &registers, SECOND)?;
-    check(&rt, rt.alloc(), one, &functions, 1, &registers, CAUSES)?;
+    check(rt, alloc, version, &functions, 1, &registers, cases)?;
+    Ok(())
+}
+
+#[test]
+fn lines(rt: HostRuntime) -> Result<(), Fail> {
+    check_named(&rt, rt.alloc(), Version::One, FIRST)
+}
+
+#[test]
+fn lines_of_the_second_version(rt: HostRuntime) -> Result<(), Fail> {
+    check_named(&rt, rt.alloc(), Version::Two, SECOND)
+}
+
+#[test]
+fn causes(rt: HostRuntime) -> Result<(), Fail> {
+    check_named(&rt, rt.alloc(), Version::One, CAUSES)
+}
+
+/// Where nothing is named.
+#[test]
+fn kinds(rt: HostRuntime) -> Result<(), Fail> {
     let none = FunctionNames::new(rt.alloc());
-    check(&rt, rt.alloc(), one, &none, 0, &[], KINDS)?;
+    check(&rt, rt.alloc(), Version::One, &none, 0, &[], KINDS)?;
+    Ok(())
+}
+
+#[test]
+fn laws() {
     one_meaning();
     meaning_or_fault();
     room_for_registers();
     plain_meaning();
-    Ok(())
 }
 
 /// Whether a statement of a function with the registers `n` and `t` is printed so. If it names a function, it is this one.
