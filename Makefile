@@ -7,7 +7,7 @@ program:
 prove:
 	./cilkcheck --prove
 
-# every proof from nothing, and then all scripts of .ci/
+# every proof that no earlier run on this machine has made, and then all scripts of .ci/
 check:
 	rt ci
 	.ci/scripts
