@@ -1,6 +1,7 @@
 -- What workers bring back, one after another.
-use Rattle.std.proofs.Common.{◌≡◌, ◌+◌, List, [], ◌∷◌, ◌++◌, Option, None, map, length, refl, sym, subst, ap, ◌∙◌}
+use Rattle.std.proofs.Common.{◌≡◌, ◌+◌, List, [], ◌∷◌, ◌++◌, Option, None, map, length, refl, sym, subst, ap, arith, ◌∙◌}
 use Rattle.std.proofs.lemmas.List.{map-append}
+use Rattle.std.proofs.lemmas.List.Elements.{All-push}
 use Rattle.crossbeam_deque.specs.Handles.{worker_deque}
 use Rattle.locked_replay.specs.declared.fault.RunFault.{RunFault}
 use Rattle.locked_replay.specs.declared.worker.WorkerLog.{WorkerLog}
@@ -9,9 +10,9 @@ use Rattle.steal_workers.specs.declared.worker.Worker.{Worker}
 use Rattle.steal_workers.specs.declared.joining.Collection.{Collection}
 use Rattle.steal_workers.specs.StealHandles.{Owner, deque_of}
 use Rattle.steal_workers.specs.Faults.{IsFirst, IsFirstOf}
-use Rattle.steal_workers.specs.Workers.{station_of}
+use Rattle.steal_workers.specs.Workers.{station_of, stations_of, TornAtJoin}
 use Rattle.steal_workers.specs.Ending.{faults_of}
-use Rattle.steal_workers.specs.Collecting.{Brings}
+use Rattle.steal_workers.specs.Collecting.{Brings, Adds, CameBack}
 use Rattle.steal_workers.proofs.FirstFaults.{first_more, first_alone}
 use Rattle.steal_workers.proofs.Grown.{said_more, said_through, asked_more}
 
@@ -55,3 +56,19 @@ module _ {L A : Type 0} where
     first_workers refused workers worker before after were first =
         subst (λ faults. IsFirstOf (refused ∷ faults) after) (sym (map-append (λ (w : Worker L A). w.fault) workers (worker ∷ [])))
         (first_more (refused ∷ faults_of workers) before worker.fault after were first)
+
+  -- so it is with those who began, and with the worker that one of them came back as
+  pub came_none : (refused : Option RunFault) (back : Collection L A) → Brings refused [] back → CameBack [] refused back
+  came_none refused back brings = ([], refl, (λ k d low. absurd (omega (arith, low))), brings)
+
+  pub came_more : (began : List (Worker L A)) (refused : Option RunFault) (start worker : Worker L A) (old new : Collection L A)
+      → CameBack began refused old → Adds worker old new → station_of worker ≡ station_of start → TornAtJoin worker → CameBack (began ++ start ∷ []) refused new
+  came_more began refused start worker old new came adds same torn = (
+    came.0 ++ worker ∷ [],
+    map-append station_of came.0 (worker ∷ [])
+        ∙ ap (λ stations. stations ++ station_of worker ∷ []) came.1
+        ∙ ap (λ station. stations_of began ++ station ∷ []) same
+        ∙ sym (map-append station_of began (start ∷ [])),
+    All-push TornAtJoin came.0 worker came.2 torn,
+    adds refused came.0 came.3,
+  )

@@ -1,6 +1,6 @@
 -- Workers that begin, and that have come back.
 use Rattle.std.proofs.Common.{◌≡◌, ◌<◌, Bool, List, [], ◌∷◌, length, get_or, map, set, sym, subst, ap, arith, ◌∙◌}
-use Rattle.std.specs.Prelude.{All}
+use Rattle.std.specs.Prelude.{All, slice_index_or, remove}
 use Rattle.std.specs.List.{sum_by}
 use Rattle.std.proofs.lemmas.List.{length-map, map-set, get_or-map}
 use Rattle.std.proofs.lemmas.List.Elements.{All-head, All-tail}
@@ -23,6 +23,11 @@ use Rattle.steal_workers.proofs.Sums.{sum_by-map, list_any-map}
 pub root_lies : (views : List PassLog) (d : PassLog) → 0 < length views → All (λ v. v ≡ pass_log [] []) views → HaveRoot (set views 0 (pushing 0 (get_or views 0 d)))
 root_lies [] d some idle = absurd (omega (arith, some))
 root_lies (v ∷ vs) d some idle = (vs, ap (λ u. pushing 0 u ∷ vs) (All-head (λ v. v ≡ pass_log [] []) v vs idle), All-tail (λ v. v ≡ pass_log [] []) v vs idle)
+
+-- those that are left behind the first
+pub behind_first : {X : Type 0} (xs rest : List X) (x : X) → 0 < length xs → x ≡ slice_index_or xs 0 x → rest ≡ remove xs 0 → xs ≡ x ∷ rest
+behind_first [] rest x some value items = absurd (omega (arith, some))
+behind_first (y ∷ ys) rest x some value items = ap (λ z. z ∷ ys) (sym value) ∙ ap (λ zs. x ∷ zs) (sym items)
 
 module _ {L A : Type 0} where
   -- so it is where the first of some ready workers begins

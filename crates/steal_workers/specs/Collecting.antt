@@ -53,6 +53,10 @@ module _ {L A : Type 0} where
   CameBack began refused back =
       (workers : List (Worker L A)) × (stations_of workers ≡ stations_of began) × All TornAtJoin workers × Brings refused workers back
 
+  -- those who began so are added to others
+  abbrev pub Joins : List (Worker L A) → Collection L A → Collection L A → Type 0
+  Joins began old new = (others : List (Worker L A)) (refused : Option RunFault) → CameBack others refused old → CameBack (others ++ began) refused new
+
   -- what a run answers of what it collected: the first fault, where one was met, and otherwise the logs, where one has the run's end
   abbrev pub settled : Option RunFault → Vec (WorkerLog L A) A → Result (Vec (WorkerLog L A) A) RunFault
   settled None logs = finished_logs logs

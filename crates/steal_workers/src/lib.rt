@@ -7,10 +7,11 @@
 //! tasks are those that were pushed and not yet taken, each as often. `Worker::run` says that a join which is met twice shows in the last
 //! receipt.
 //!
-//! [`run`] starts a thread for each worker, and joins them. Its contract carries the theorem: it answers the logs of the workers, one for
-//! each, with a receipt of the run's end among them, and as many receipts as were asked for on their seats; or the first of their faults.
-//! Whether the receipts are the gate's history is for `gather` of `locked_replay` to say. That two workers run at once, and who gets a task
-//! that was stolen, is shown by tests and not proved. [`run_serially`] runs a program by one worker that enters each child at its spawn.
+//! [`run`] starts a thread for each worker but the first, which works on the thread of the caller, and joins them. Its contract carries the
+//! theorem: it answers the logs of the workers, one for each, with a receipt of the run's end among them, and as many receipts as were
+//! asked for on their seats; or the first of their faults. Whether the receipts are the gate's history is for `gather` of `locked_replay` to
+//! say. That two workers run at once, and who gets a task that was stolen, is shown by tests and not proved. [`run_serially`] runs a program
+//! by one worker that enters each child at its spawn.
 #![tactic(auto)]
 
 mod fault;

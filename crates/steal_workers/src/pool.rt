@@ -7,7 +7,7 @@ ghost use Rattle.steal_workers.specs.PassLogs.{pass_log};
 ghost use Rattle.steal_workers.specs.StealHandles.{own_deque, own_view, deques_of, AllLeadTo};
 ghost use Rattle.steal_workers.specs.Workers.{station_of, stations_of, TornAtJoin};
 ghost use Rattle.steal_workers.specs.Beginning.{own_hands, HaveRoot, IsReady};
-ghost use Rattle.steal_workers.specs.Collecting.{HasRoom, AreSame, Brings, CameBack, Completes};
+ghost use Rattle.steal_workers.specs.Collecting.{HasRoom, AreSame, Joins, Completes};
 ghost use Rattle.steal_workers.specs.Ending.{AreSomeOf, IsAnswered};
 ghost use Rattle.locked_replay.specs.Finishing.{some_finished};
 
@@ -104,7 +104,7 @@ fn prepare<'p, L: Ledger, A: Allocator + Copy>(
     hired[0].begin(program)
 }
 
-/// Starts the workers, and says whether all of them could be started. Where one could not, the run is over.
+/// Starts a thread for each of these workers, and says whether all of them could be started. Where one could not, the run is over.
 fn start<
     's,
     'p: 's,
@@ -121,7 +121,6 @@ fn start<
     lot: &'s Lot<'p, A>,
     running: &mut Vec<Running<'p, L, A>, A>,
 ) -> bool
-    requires root { HaveRoot (own_hands hired.items) }
     requires room { (running.old.items ≡ []) × (vec_len running.old ≡ 0) × (vec_len hired ≤ vec_capacity running.old) }
     ensures hired { result ≡ true → map (λ h. h.promise.0.value) running.new.items ≡ hired.entry.items }
     ensures some { AreSomeOf (map (λ h. h.promise.0.value) running.new.items) hired.entry.items }
@@ -143,7 +142,7 @@ fn start<
     all
 }
 
-/// What a run answers whose workers are started and joined here.
+/// What a run answers whose workers work here: the first on this thread, and each other one on a thread that is started and joined.
 fn run_workers<
     's,
     'p: 's,
@@ -167,20 +166,21 @@ fn run_workers<
     let mut running = Vec::new(alloc);
     let mut back = Collection::new(alloc);
     prepare(program, &mut hired, &mut running, &mut back)?;
+    let first = hired.remove(0);
     back.fault = thread_fault_of(start(rt, scope, hired, gate, lot, &mut running));
+    back.add(first.run(rt, gate, lot));
     join_workers(rt, running, &mut back);
     back.settle()
 }
 
-/// Waits for the workers, which come back in their order, and collects what they bring.
+/// Waits for the workers on threads, which come back in their order, and collects what they bring.
 fn join_workers<'p, L: Ledger, A: Allocator + Copy, R: Threads>(
     rt: &R,
     running: Vec<Running<'p, L, A>, A>,
     back: &mut Collection<'p, L, A>,
 )
-    requires room { HasRoom (vec_len running) back.old }
-    requires none { Brings back.old.fault [] back.old }
-    ensures { CameBack (map (λ h. h.promise.0.value) running.entry.items) back.old.fault back.new }
+    requires { HasRoom (vec_len running) back.old }
+    ensures { Joins (map (λ h. h.promise.0.value) running.entry.items) back.old back.new }
 {
     for thread in running {
         back.add(thread.join(rt));
@@ -216,10 +216,11 @@ fn run_in_scope<
     )
 }
 
-/// Runs the program by so many workers, which ask the gate on parts of the seat. At Ok the run came to its end, and there is one log for
-/// each worker, with what it brought back. Otherwise the answer is Limit, Torn, Strange or Memory, the first of these that a worker met,
-/// and Stopped where none met another; a thread that can't be started counts as a worker that met Memory. It is Memory too where there is
-/// none before a worker begins, and Strange where no worker met a fault and none saw the run's end.
+/// Runs the program by so many workers, which ask the gate on parts of the seat. The first works on the thread of the caller, and each
+/// other one on its own. At Ok the run came to its end, and there is one log for each worker, with what it brought back. Otherwise the
+/// answer is Limit, Torn, Strange or Memory, the first of these that a worker met, and Stopped where none met another; a thread that can't
+/// be started counts as a worker that met Memory. It is Memory too where there is none before a worker begins, and Strange where no worker
+/// met a fault and none saw the run's end.
 pub fn run<
     L: Ledger + Send + Sync,
     A: Allocator + Copy + Send + Sync,
