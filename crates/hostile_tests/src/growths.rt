@@ -138,19 +138,8 @@ fn check(rt: &impl Abort, alloc: Global, calls: &Calls, names: &[&str]) {
     }
 }
 
-const COMMANDS: &[(Calls, &str)] = &[
-    (Calls::Command(Command::Judge), "judge_stream"),
-    (Calls::Command(Command::Elide), "elide_text"),
-    (Calls::Command(Command::Replay), "replay_text"),
-    (Calls::Command(Command::Draw(Form::Dot)), "draw_text"),
-    (
-        Calls::Command(Command::Draw(Form::Svg)),
-        "draw_text of a picture",
-    ),
-];
-
 #[test]
-fn calls_whose_growths_are_refused(rt: HostRuntime) {
+fn growths_of_lists_and_strands(rt: HostRuntime) {
     let alloc = rt.alloc();
     check(
         &rt,
@@ -174,6 +163,11 @@ fn calls_whose_growths_are_refused(rt: HostRuntime) {
             "Strands::call",
         ],
     );
+}
+
+#[test]
+fn growths_of_what_is_kept_of_strands(rt: HostRuntime) {
+    let alloc = rt.alloc();
     check(
         &rt,
         alloc,
@@ -188,6 +182,11 @@ fn calls_whose_growths_are_refused(rt: HostRuntime) {
     );
     check(&rt, alloc, &Calls::Reads, &["ReadPeers::new"]);
     check(&rt, alloc, &Calls::Shadow, &["Shadow::new"]);
+}
+
+#[test]
+fn growths_of_traces_and_gates(rt: HostRuntime) {
+    let alloc = rt.alloc();
     check(
         &rt,
         alloc,
@@ -201,6 +200,11 @@ fn calls_whose_growths_are_refused(rt: HostRuntime) {
         &Calls::Replies,
         &["Gate::new", "judge_all", "verdict_lines"],
     );
+}
+
+#[test]
+fn growths_of_programs_and_runs(rt: HostRuntime) {
+    let alloc = rt.alloc();
     check(
         &rt,
         alloc,
@@ -218,7 +222,22 @@ fn calls_whose_growths_are_refused(rt: HostRuntime) {
         &Calls::Run,
         &["Frame::answer", "Frame::reserve_call", "replay"],
     );
+}
+
+const COMMANDS: &[(Calls, &str)] = &[
+    (Calls::Command(Command::Judge), "judge_stream"),
+    (Calls::Command(Command::Elide), "elide_text"),
+    (Calls::Command(Command::Replay), "replay_text"),
+    (Calls::Command(Command::Draw(Form::Dot)), "draw_text"),
+    (
+        Calls::Command(Command::Draw(Form::Svg)),
+        "draw_text of a picture",
+    ),
+];
+
+#[test]
+fn growths_of_commands(rt: HostRuntime) {
     for (command, name) in COMMANDS {
-        check(&rt, alloc, command, &[*name]);
+        check(&rt, rt.alloc(), command, &[*name]);
     }
 }

@@ -181,13 +181,19 @@ const OTHER_REQUESTS: &[Request] = &[
 
 const UNCHANGED: &[(usize, Change)] = &[(0, Change::Nothing)];
 
-// The requests of a run and of none have all their receipts.
 #[test]
-fn receipts_that_are_changed_and_requests_of_no_run(rt: HostRuntime) -> Result<(), Fail> {
+fn receipts_that_are_changed(rt: HostRuntime) -> Result<(), Fail> {
+    let program = Program::parse(rt.alloc(), PAIR)?;
+    let torn = Err(RunFault::Torn);
+    check_changes(&rt, rt.alloc(), &program, PAIR_REQUESTS, CHANGES, torn);
+    Ok(())
+}
+
+/// The requests of a run and of none have all their receipts.
+#[test]
+fn requests_of_a_run_and_of_none(rt: HostRuntime) -> Result<(), Fail> {
     let program = Program::parse(rt.alloc(), PAIR)?;
     let alloc = rt.alloc();
-    let torn = Err(RunFault::Torn);
-    check_changes(&rt, alloc, &program, PAIR_REQUESTS, CHANGES, torn);
     check_changes(&rt, alloc, &program, PAIR_REQUESTS, UNCHANGED, Ok(false));
     let strange = Err(RunFault::Strange);
     check_changes(&rt, alloc, &program, OTHER_REQUESTS, UNCHANGED, strange);
