@@ -1,6 +1,8 @@
 //! The faults of the commands: their texts and statuses, and those of a run whose gate stops, tears or answers strangely, which writes
 //! nothing.
 
+ghost use Rattle.std.specs.Prelude.{◌<◌, ◌≤◌};
+
 use crate::checks::equal;
 use crate::pranks::{Prank, PrankDoor};
 use crate::worked::FIB;
@@ -17,7 +19,7 @@ use tool_commands::{CliFault, Watched, run_text};
 fn check_told<A: Abort>(
     rt: &A,
     alloc: Global,
-    fault: &CliFault,
+    fault: CliFault,
     text: &str,
     status: u8,
 ) -> Result<(), Fail> {
@@ -27,26 +29,16 @@ fn check_told<A: Abort>(
     Ok(())
 }
 
-/// Each fault has its text and status.
-fn check_each(rt: &impl Abort, alloc: Global, faults: &[(CliFault, &str, u8)]) -> Result<(), Fail> {
-    for (fault, text, status) in faults {
-        check_told(rt, alloc, fault, text, *status)?;
-    }
-    Ok(())
-}
-
 /// Faults of the arguments, of want of memory, of what is read and of what is written.
 fn check_streams(rt: &impl Abort, alloc: Global) -> Result<(), Fail> {
     let words = "no such option".to_string(alloc)?;
-    let faults = [
-        (CliFault::Usage(words), "no such option", 2),
-        (CliFault::from(TextFault::Memory), "memory", 3),
-        (CliFault::Read, "read", 2),
-        (CliFault::Write, "write", 2),
-        (CliFault::Unwritten, "cannot write OUT", 2),
-        (CliFault::TooLong, "too long", 2),
-    ];
-    check_each(rt, alloc, &faults)
+    check_told(rt, alloc, CliFault::Usage(words), "no such option", 2)?;
+    let memory = CliFault::from(TextFault::Memory);
+    check_told(rt, alloc, memory, "memory", 3)?;
+    check_told(rt, alloc, CliFault::Read, "read", 2)?;
+    check_told(rt, alloc, CliFault::Write, "write", 2)?;
+    check_told(rt, alloc, CliFault::Unwritten, "cannot write OUT", 2)?;
+    check_told(rt, alloc, CliFault::TooLong, "too long", 2)
 }
 
 /// A fault of a text at its third line.
@@ -62,30 +54,26 @@ macro_rules! third {
 /// Faults of texts.
 fn check_texts(rt: &impl Abort, alloc: Global) -> Result<(), Fail> {
     let trace = CliFault::Trace(third!(Cause::BadWord));
+    check_told(rt, alloc, trace, "trace line 3: BadWord", 2)?;
+    let trace = CliFault::Trace(TextFault::Memory);
+    check_told(rt, alloc, trace, "trace memory", 3)?;
     let program = CliFault::Program(third!(Cause::BadNesting));
-    let faults = [
-        (trace, "trace line 3: BadWord", 2),
-        (CliFault::Trace(TextFault::Memory), "trace memory", 3),
-        (program, "program line 3: BadNesting", 2),
-        (CliFault::Program(TextFault::Memory), "program memory", 3),
-        (CliFault::Shape, "shape", 2),
-        (CliFault::Illegal(7), "illegal request 7", 2),
-    ];
-    check_each(rt, alloc, &faults)
+    check_told(rt, alloc, program, "program line 3: BadNesting", 2)?;
+    let program = CliFault::Program(TextFault::Memory);
+    check_told(rt, alloc, program, "program memory", 3)?;
+    check_told(rt, alloc, CliFault::Shape, "shape", 2)?;
+    check_told(rt, alloc, CliFault::Illegal(7), "illegal request 7", 2)
 }
 
 /// Faults of runs, and limits.
 fn check_runs(rt: &impl Abort, alloc: Global) -> Result<(), Fail> {
     let most = "too many strands to draw: 10000 at most";
-    let faults = [
-        (CliFault::Limit, "limit", 4),
-        (CliFault::TooManyStrands, most, 4),
-        (CliFault::Stopped, "stopped", 4),
-        (CliFault::Torn, "torn", 4),
-        (CliFault::Strange, "strange", 4),
-        (CliFault::Memory, "memory", 3),
-    ];
-    check_each(rt, alloc, &faults)
+    check_told(rt, alloc, CliFault::Limit, "limit", 4)?;
+    check_told(rt, alloc, CliFault::TooManyStrands, most, 4)?;
+    check_told(rt, alloc, CliFault::Stopped, "stopped", 4)?;
+    check_told(rt, alloc, CliFault::Torn, "torn", 4)?;
+    check_told(rt, alloc, CliFault::Strange, "strange", 4)?;
+    check_told(rt, alloc, CliFault::Memory, "memory", 3)
 }
 
 /// Each fault has the text and status that docs/FORMATS.md gives.
@@ -113,6 +101,34 @@ const CASES: &[Case] = &[
     (Prank::Starves(713), "memory", 3),
 ];
 
+/// Runs FIB by so many workers through a door that plays the prank. What `run_text` answers, and what it has written to.
+fn run_fib<R: Threads + Wait + Sync>(
+    rt: &R,
+    alloc: Global,
+    workers: usize,
+    prank: Prank,
+) -> (Result<u8, CliFault>, Watched<Vec<u8>>)
+    requires { (0 < workers) × (workers ≤ 64) }
+{
+    let mut program = Watched::new(FIB);
+    let mut output = Watched::new(Vec::new(alloc));
+    let door = PrankDoor {
+        prank,
+        asked: AtomicU64::new(0),
+    };
+    let answer = run_text(
+        rt,
+        alloc,
+        alloc,
+        &mut program,
+        workers,
+        &door,
+        &mut output,
+        1_000_000,
+    );
+    (answer, output)
+}
+
 /// A run by so many workers tells the fault, and nothing is written.
 fn check_case<R: Abort + Threads + Wait + Sync>(
     rt: &R,
@@ -122,27 +138,15 @@ fn check_case<R: Abort + Threads + Wait + Sync>(
 ) -> Result<(), Fail> {
     assert!(rt; 0 < workers && workers <= 64);
     let (prank, text, status) = case;
-    let mut program = Watched::new(FIB);
-    let mut output = Watched::new(Vec::new(alloc));
-    let door = PrankDoor {
-        prank,
-        asked: AtomicU64::new(0),
-    };
-    match run_text(
-        rt,
-        alloc,
-        alloc,
-        &mut program,
-        workers,
-        &door,
-        &mut output,
-        1_000_000,
-    ) {
-        Ok(found) => equal(rt, &(prank, workers), &Some(found), &None),
-        Err(fault) => check_told(rt, alloc, &fault, text, status)?,
-    }
+    let (answer, output) = run_fib(rt, alloc, workers, prank);
     equal(rt, &(prank, workers), &output.calls(), &0);
-    Ok(())
+    match answer {
+        Ok(found) => {
+            equal(rt, &(prank, workers), &Some(found), &None);
+            Ok(())
+        }
+        Err(fault) => check_told(rt, alloc, fault, text, status),
+    }
 }
 
 #[test]
@@ -158,24 +162,8 @@ fn a_run_whose_gate_is_cheated_tells_it_and_writes_nothing(rt: HostRuntime) -> R
 /// A door that lets each request in as others do, in its own way, changes nothing.
 #[test]
 fn a_run_whose_gate_is_turned_round_is_told(rt: HostRuntime) -> Result<(), Fail> {
-    let mut program = Watched::new(FIB);
-    let mut output = Watched::new(Vec::new(rt.alloc()));
-    let door = PrankDoor {
-        prank: Prank::Turns,
-        asked: AtomicU64::new(0),
-    };
-    let status = run_text(
-        &rt,
-        rt.alloc(),
-        rt.alloc(),
-        &mut program,
-        8,
-        &door,
-        &mut output,
-        1_000_000,
-    )
-    .ok();
-    equal(&rt, &"status", &status, &Some(0));
+    let (answer, output) = run_fib(&rt, rt.alloc(), 8, Prank::Turns);
+    equal(&rt, &"status", &answer.ok(), &Some(0));
     let told = output.into_inner();
     let wanted =
         "{\"clean\":true,\"entries\":713,\"memory\":{\"x\":55},\"refusals\":[],\"schedules\":\"clean for every schedule\"}\n";

@@ -24,15 +24,31 @@ macro_rules! entry {
 
 /// What a call answers, made once more where it answered that there is no memory, if what it was made on was as before then.
 macro_rules! twice {
-    ($told:ident, $call:literal, $memory:pat, $answer:expr, $is_as_before:expr) => {{
-        let mut answer = $answer;
-        if crate::growths::note($told, $call, matches!(answer, Err($memory))) && $is_as_before {
-            answer = $answer;
+    ($told:ident, $call:literal, $memory:pat, $answer:expr, $is_as_before:expr) => {
+        match $answer {
+            Err($memory) if crate::growths::note($told, $call, true) && $is_as_before => $answer,
+            answer => answer,
         }
-        answer
-    }};
+    };
     ($told:ident, $call:literal, $memory:pat, $answer:expr) => {
         twice!($told, $call, $memory, $answer, true)
+    };
+}
+
+/// Whether what a call makes is right. The call is made once more where it answered that there is no memory. This is for calls that make a
+/// large value, since `twice!` has variables for it, and each of them lengthens the proof.
+macro_rules! is_made {
+    ($told:ident, $call:literal, $memory:pat, $answer:expr, $made:pat => $is_right:expr) => {
+        match $answer {
+            Ok($made) => $is_right,
+            Err(fault) => {
+                crate::growths::note($told, $call, matches!(fault, $memory))
+                    && match $answer {
+                        Ok($made) => $is_right,
+                        Err(_) => false,
+                    }
+            }
+        }
     };
 }
 
@@ -109,26 +125,35 @@ fn make_calls(alloc: Global, heap: &Heap, calls: &Calls, told: &mut Told) -> boo
 /// Where the growths of calls have no end.
 const ENDLESS: usize = 10_000;
 
+/// Makes the calls over a new heap that refuses the growth behind so many. Whether there was such a growth, and so no memory for just one call.
+fn check_refused(
+    rt: &impl Abort,
+    alloc: Global,
+    calls: &Calls,
+    names: &[&str],
+    growths: usize,
+    told: &mut Told,
+) -> bool {
+    let heap = Refusing::new(alloc);
+    heap.refuse((growths as u64).saturating_add(1));
+    let is_right = make_calls(alloc, &heap, calls, told);
+    let has_refused = heap.has_refused();
+    let refused = if has_refused {
+        growths.saturating_add(1)
+    } else {
+        growths
+    };
+    let found = (is_right, told.len());
+    equal(rt, &(names, growths), &found, &(true, refused));
+    has_refused
+}
+
 /// Refuses the first growth of the calls, the second, and so on until none is refused. For each that is refused there is no memory for just
 /// one call, and so it is for each call that has a name here.
 fn check(rt: &impl Abort, alloc: Global, calls: &Calls, names: &[&str]) {
     let mut told = Vec::new(alloc);
     for growths in 0..ENDLESS {
-        let heap = Refusing::new(alloc);
-        heap.refuse(growths as u64 + 1);
-        let is_right = make_calls(alloc, &heap, calls, &mut told);
-        let refused = if heap.has_refused() {
-            growths + 1
-        } else {
-            growths
-        };
-        equal(
-            rt,
-            &(names, growths),
-            &(is_right, told.len()),
-            &(true, refused),
-        );
-        if !heap.has_refused() {
+        if !check_refused(rt, alloc, calls, names, growths, &mut told) {
             break;
         }
     }

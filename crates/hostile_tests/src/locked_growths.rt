@@ -6,7 +6,7 @@ use crate::receipts::PAIR_REQUESTS;
 use crate::refusing::Refusing;
 use crate::rounds::gate_for;
 use crate::worked::PAIR;
-use locked_replay::{LockedGate, RunFault, Seat, WorkerLog, gather};
+use locked_replay::{LockedGate, RunFault, Seat, Whole, WorkerLog, gather};
 use packed_history::Receipts;
 use program_text::Program;
 use race_gate::GateFault;
@@ -79,6 +79,25 @@ fn ask_refused<'h, L: Ledger, R: Wait>(
     Some((WorkerLog { seat, receipts }, (was_refused, is_told)))
 }
 
+/// Whether there was no memory to gather a run, which is clean or not, has so many entries and leaves this memory.
+pub fn lacks_whole(
+    gathered: Result<Whole<&Heap>, RunFault>,
+    clean: bool,
+    entries: usize,
+    memory: &[u64],
+) -> Option<bool> {
+    match gathered {
+        Ok(whole) => {
+            let is_right = whole.clean == clean
+                && whole.entries.len() == entries
+                && whole.memory.as_slice() == memory;
+            is_right.then_some(false)
+        }
+        Err(RunFault::Memory) => Some(true),
+        Err(_) => None,
+    }
+}
+
 /// What is found where PAIR's run is gathered of its log, in which the child writes 7 and the spawner's read is refused. Its growth of this
 /// number is refused.
 fn gather_refused<'h, L: Ledger>(
@@ -94,21 +113,35 @@ fn gather_refused<'h, L: Ledger>(
     logs.push_reserved(log);
     heap.refuse(number);
     let gathered = gather(heap, program, locked, logs);
+    let is_told = lacks_whole(gathered, false, 7, &[7, 0]);
     let was_refused = heap.has_refused();
     heap.refuse(0);
-    match gathered {
-        Ok(whole) => {
-            let is_right = !whole.clean
-                && whole.entries.len() == 7
-                && whole.memory.as_slice() == [7, 0].as_slice();
-            is_right.then_some((was_refused, false))
-        }
-        Err(RunFault::Memory) => Some((was_refused, true)),
-        Err(_) => None,
-    }
+    Some((was_refused, is_told?))
 }
 
 /// PAIR's run is asked and gathered. The growth of one number is refused while it is asked, and that of the other while it is gathered.
+fn ask_and_gather<'h, L: Ledger, R: Wait>(
+    rt: &R,
+    heap: &'h Heap,
+    program: &Program<&'h Heap>,
+    asking: u64,
+    gathering: u64,
+    blank: Blank,
+) -> Option<(Found, Found)>
+    requires name { blank.name ≡ L.name }
+    requires all { blank.parts ≡ L.parts }
+    requires parts { blank.parts ≡ 1 }
+{
+    let Ok(gate) = gate_for(heap, program) else {
+        return None;
+    };
+    let (locked, seat) = LockedGate::<L, &Heap>::new(gate, blank, 1);
+    let (log, asked) = ask_refused(rt, heap, &locked, seat, asking)?;
+    let gathered = gather_refused(heap, program, locked, log, gathering)?;
+    Some((asked, gathered))
+}
+
+/// The same, where PAIR is read first.
 fn gathers<L: Ledger, R: Wait>(
     rt: &R,
     heap: &Heap,
@@ -121,16 +154,10 @@ fn gathers<L: Ledger, R: Wait>(
     requires parts { blank.parts ≡ 1 }
 {
     heap.refuse(0);
-    let Ok(program) = Program::parse(heap, PAIR) else {
-        return None;
-    };
-    let Ok(gate) = gate_for(heap, &program) else {
-        return None;
-    };
-    let (locked, seat) = LockedGate::<L, &Heap>::new(gate, blank, 1);
-    let (log, asked) = ask_refused(rt, heap, &locked, seat, asking)?;
-    let gathered = gather_refused(heap, &program, locked, log, gathering)?;
-    Some((asked, gathered))
+    match Program::parse(heap, PAIR) {
+        Ok(program) => ask_and_gather::<L, R>(rt, heap, &program, asking, gathering, blank),
+        Err(_) => None,
+    }
 }
 
 /// Does so, and once more with all memory. Of asking and gathering that of which no growth is refused has memory.

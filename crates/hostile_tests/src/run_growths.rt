@@ -4,7 +4,7 @@
 ghost use Rattle.std.specs.Prelude.{◌≡◌, ◌<◌, ◌≤◌};
 
 use crate::checks::equal;
-use crate::locked_growths::{Found, Heap, found_of};
+use crate::locked_growths::{Found, Heap, found_of, lacks_whole};
 use crate::refusing::Refusing;
 use crate::rounds::gate_for;
 use crate::worked::SMALL_FIB;
@@ -133,28 +133,20 @@ fn lacks_run<R: Threads + Wait + Sync>(
 ) -> Option<bool>
     requires { (0 < workers) × (workers ≤ 64) }
 {
-    match run_and_gather::<Brand, &Heap, R>(rt, heap, program, workers, Blank::new(PARTS)) {
-        Ok(whole) => {
-            let is_right = whole.clean
-                && whole.entries.len() == 65
-                && whole.memory.as_slice() == [5].as_slice();
-            is_right.then_some(false)
-        }
-        Err(RunFault::Memory) => Some(true),
-        Err(_) => None,
-    }
+    let blank = Blank::new(PARTS);
+    let gathered = run_and_gather::<Brand, &Heap, R>(rt, heap, program, workers, blank);
+    lacks_whole(gathered, true, 65, &[5])
 }
 
 /// Whether there is no memory for a run in the serial order, which asks a gate of its own.
 fn lacks_serially(heap: &Heap, program: &Program<Global>) -> Option<bool> {
-    let mut gate = match gate_for(heap, program) {
-        Ok(gate) => gate,
-        Err(AllocError) => return Some(true),
-    };
-    match run_serially(heap, program, &mut gate) {
-        Ok(()) => (gate.memory() == [5].as_slice()).then_some(false),
-        Err(RunFault::Memory) => Some(true),
-        Err(_) => None,
+    match gate_for(heap, program) {
+        Ok(mut gate) => match run_serially(heap, program, &mut gate) {
+            Ok(()) => (gate.memory() == [5].as_slice()).then_some(false),
+            Err(RunFault::Memory) => Some(true),
+            Err(_) => None,
+        },
+        Err(AllocError) => Some(true),
     }
 }
 

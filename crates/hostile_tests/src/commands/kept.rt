@@ -4,12 +4,12 @@
 ghost use Rattle.std.specs.Prelude.{◌≡◌, false};
 ghost use Rattle.command_streams.specs.Watched.{has_failed};
 
+use super::Command;
 use super::Command::{Explain, ExplainAsJson};
 use super::Wanted::Text;
 use super::pieces::{LATE, Long, RETURNS, WIDE, check_broken, check_pieces};
-use super::{Command, Wanted};
 use command_streams::{KeptText, read_kept};
-use std::alloc::Global;
+use std::alloc::{AllocError, Global};
 use std::process::Abort;
 use std::test::Fail;
 use tool_commands::Watched;
@@ -71,13 +71,10 @@ const PROGRAM: Long = long!("cilk 1\nmem x\nfunc main z\n", "write x 1\n", "end\
 /// What is told of so many requests that are clean.
 macro_rules! clean {
     ($judged:literal) => {
-        Text(
-            0,
-            concat!(
-                "clean: no two of the accesses of this trace race, in whatever order its strands run\njudged: ",
-                $judged,
-                "\n"
-            ),
+        concat!(
+            "clean: no two of the accesses of this trace race, in whatever order its strands run\njudged: ",
+            $judged,
+            "\n"
         )
     };
 }
@@ -146,15 +143,25 @@ const KEPT: &[(Long, bool)] = &[
     (PROGRAM, false),
 ];
 
-/// The text is given again, and it stands as it was read unless it is plain.
+/// Whether the text is given again, and stands as it was read unless it is plain.
+fn is_kept(
+    alloc: Global,
+    kept: &KeptText<Global>,
+    text: &[u8],
+    is_plain: bool,
+) -> Result<bool, AllocError> {
+    match kept {
+        KeptText::Whole(kept) => Ok(!is_plain && kept.as_slice() == text),
+        KeptText::Plain(kept) => Ok(is_plain && kept.to_text(alloc)?.as_slice() == text),
+    }
+}
+
+/// The text is kept so.
 fn check_kept(rt: &impl Abort, alloc: Global, long: &Long, is_plain: bool) -> Result<(), Fail> {
     let text = long.text(alloc)?;
     let mut reader = Watched::new(text.as_bytes());
-    let is_right = match read_kept(alloc, &mut reader)? {
-        KeptText::Whole(kept) => !is_plain && kept.as_slice() == text.as_bytes(),
-        KeptText::Plain(kept) => { is_plain && kept.to_text(alloc)?.as_slice() == text.as_bytes() }
-    };
-    assert!(rt; is_right);
+    let kept = read_kept(alloc, &mut reader)?;
+    assert!(rt; is_kept(alloc, &kept, text.as_bytes(), is_plain)?);
     Ok(())
 }
 
@@ -167,32 +174,33 @@ fn plain_lines_are_kept_as_requests(rt: HostRuntime) -> Result<(), Fail> {
     Ok(())
 }
 
-/// Commands over long texts, and what is told.
-const TOLD: &[(Command<'static>, Long, Wanted<'static>)] = &[
+/// Commands over long texts, their exit statuses, and what is told.
+const TOLD: &[(Command<'static>, Long, u8, &str)] = &[
     // Nothing is refused.
-    (Explain, PLAIN, clean!("20000 requests")),
-    (Explain, UNENDED, clean!("20001 requests")),
-    (Explain, ZERO, clean!("20001 requests")),
-    (Explain, BLANK, clean!("20001 requests")),
-    (Explain, REMARKS, clean!("20000 requests")),
-    (Explain, RETURNS, clean!("20001 requests")),
-    (Explain, WIDE, clean!("2 requests")),
-    (Explain, LATE, clean!("1 request")),
+    (Explain, PLAIN, 0, clean!("20000 requests")),
+    (Explain, UNENDED, 0, clean!("20001 requests")),
+    (Explain, ZERO, 0, clean!("20001 requests")),
+    (Explain, BLANK, 0, clean!("20001 requests")),
+    (Explain, REMARKS, 0, clean!("20000 requests")),
+    (Explain, RETURNS, 0, clean!("20001 requests")),
+    (Explain, WIDE, 0, clean!("2 requests")),
+    (Explain, LATE, 0, clean!("1 request")),
     // Others.
-    (Explain, RECORDED, Text(0, RECORDED_TOLD)),
-    (Explain, RACED, Text(1, RACED_TOLD)),
-    (Explain, FAULTY, Text(2, FAULTY_TOLD)),
-    (Explain, ENDED, Text(2, ENDED_TOLD)),
-    (Explain, PROGRAM, Text(0, PROGRAM_TOLD)),
-    (ExplainAsJson, RACED, Text(1, RACED_RECORD)),
+    (Explain, RECORDED, 0, RECORDED_TOLD),
+    (Explain, RACED, 1, RACED_TOLD),
+    (Explain, FAULTY, 2, FAULTY_TOLD),
+    (Explain, ENDED, 2, ENDED_TOLD),
+    (Explain, PROGRAM, 0, PROGRAM_TOLD),
+    (ExplainAsJson, RACED, 1, RACED_RECORD),
 ];
 
 /// Behind the first piece a text goes on with plain lines of requests, or with others, and the same is told as of a short text.
 #[test]
 fn long_texts_are_explained(rt: HostRuntime) -> Result<(), Fail> {
-    for (command, long, wanted) in TOLD {
+    for (command, long, status, told) in TOLD {
         let text = long.text(rt.alloc())?;
-        check_pieces(&rt, rt.alloc(), *command, text.as_bytes(), PIECES, *wanted);
+        let wanted = Text(*status, told);
+        check_pieces(&rt, rt.alloc(), *command, text.as_bytes(), PIECES, wanted);
     }
     Ok(())
 }

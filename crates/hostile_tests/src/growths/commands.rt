@@ -83,18 +83,15 @@ fn tells(ended: &Ended, status: u8, text: &[u8]) -> bool {
 /// `draw` without less room for a text that they have read.
 pub(super) fn call_command(alloc: Global, heap: &Heap, command: &Command, told: &mut Told) -> bool {
     let (name, status, text) = wanted_of(command);
-    let mut ended = perform(alloc, heap, command);
-    if note(told, name, heap.has_refused()) {
-        let lacks_memory = matches!(ended.0, Err(CliFault::Memory)) && ended.1.is_empty();
-        let is_borne = match command {
-            Command::Judge => tells(&ended, status, text) || tells(&ended, 3, STARVED),
-            Command::Elide => false,
-            Command::Replay | Command::Draw(_) => tells(&ended, status, text),
-        };
-        if !lacks_memory && !is_borne {
-            return false;
-        }
-        ended = perform(alloc, heap, command);
+    let ended = perform(alloc, heap, command);
+    if !note(told, name, heap.has_refused()) {
+        return tells(&ended, status, text);
     }
-    tells(&ended, status, text)
+    let lacks_memory = matches!(ended.0, Err(CliFault::Memory)) && ended.1.is_empty();
+    let is_borne = match command {
+        Command::Judge => tells(&ended, status, text) || tells(&ended, 3, STARVED),
+        Command::Elide => false,
+        Command::Replay | Command::Draw(_) => tells(&ended, status, text),
+    };
+    (lacks_memory || is_borne) && tells(&perform(alloc, heap, command), status, text)
 }

@@ -155,17 +155,25 @@ fn replies_alike(gate: &mut Gate<&Heap>, replies: &[Reply]) -> Option<usize> {
     (replies.len() == REQUESTS.len()).then_some(left_out)
 }
 
-/// The gate has replied to all requests, or, where one of them found no memory, as another gate that was not asked it, which keeps the same.
+/// The gate has replied to all requests, or, where one of them found no memory, as the other gate, which is not asked it and keeps the same.
+fn replies_as(
+    gate: &Gate<&Heap>,
+    other: &mut Gate<&Heap>,
+    replies: &[Reply],
+    told: &mut Told,
+) -> bool {
+    let left_out = replies_alike(other, replies);
+    let is_wanting = note(told, "judge_all", left_out == Some(1));
+    gate.history() == other.history()
+        && gate.memory() == other.memory()
+        && (is_wanting || left_out == Some(0) && keeps(gate, entries(), 4))
+}
+
+/// So it has, where the other gate is a new one.
 fn are_replies(alloc: Global, gate: &Gate<&Heap>, replies: &[Reply], told: &mut Told) -> bool {
     let spare = Refusing::new(alloc);
     match open_gate(alloc, &spare, told) {
-        Ok(mut other) => {
-            let left_out = replies_alike(&mut other, replies);
-            let is_wanting = note(told, "judge_all", left_out == Some(1));
-            gate.history() == other.history()
-                && gate.memory() == other.memory()
-                && (is_wanting || left_out == Some(0) && keeps(gate, entries(), 4))
-        }
+        Ok(mut other) => replies_as(gate, &mut other, replies, told),
         Err(AllocError) => false,
     }
 }

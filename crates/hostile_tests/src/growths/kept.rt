@@ -6,7 +6,7 @@ ghost use Rattle.sp_labels.specs.Roster.{Follows};
 ghost use Rattle.shadow_history.specs.Shadow.{Remembers, Runs, StandsOn};
 ghost use Rattle.view_read_rule.specs.Reads.{StandsOn as PeersStandOn};
 
-use super::{Heap, Told, note};
+use super::{Heap, Told};
 use branch_names::Branches;
 use model_accesses::{Kind, Witness};
 use reducer_views::Views;
@@ -21,21 +21,27 @@ fn names_one(branches: &Branches<&Heap>, has_room: bool) -> bool {
     branches.is_named(0) && !branches.is_named(1) && branches.has_room() == has_room
 }
 
+/// New branches get room for an event.
+fn ask_branches(branches: &mut Branches<&Heap>, told: &mut Told) -> bool {
+    let was_new = names_one(branches, false);
+    let reserved = twice!(
+        told,
+        "Branches::reserve_event",
+        AllocError,
+        branches.reserve_event(),
+        names_one(branches, false)
+    );
+    was_new && reserved.is_ok() && names_one(branches, true)
+}
+
 pub(super) fn call_branches(heap: &Heap, told: &mut Told) -> bool {
-    match twice!(told, "Branches::new", AllocError, Branches::new(heap)) {
-        Ok(mut branches) => {
-            let was_new = names_one(&branches, false);
-            let reserved = twice!(
-                told,
-                "Branches::reserve_event",
-                AllocError,
-                branches.reserve_event(),
-                names_one(&branches, false)
-            );
-            was_new && reserved.is_ok() && names_one(&branches, true)
-        }
-        Err(AllocError) => false,
-    }
+    is_made!(
+        told,
+        "Branches::new",
+        AllocError,
+        Branches::new(heap),
+        mut branches => ask_branches(&mut branches, told)
+    )
 }
 
 /// Strand 0 alone is there and sees this number in the reducer, and there is room for an event or not.
@@ -82,10 +88,13 @@ fn ask_views(views: &mut Views<&Heap>, told: &mut Told) -> bool
 
 pub(super) fn call_views(heap: &Heap, told: &mut Told) -> bool {
     let monoids = &[Monoid::Sum];
-    match twice!(told, "Views::new", AllocError, Views::new(heap, monoids)) {
-        Ok(mut views) => ask_views(&mut views, told),
-        Err(AllocError) => false,
-    }
+    is_made!(
+        told,
+        "Views::new",
+        AllocError,
+        Views::new(heap, monoids),
+        mut views => ask_views(&mut views, told)
+    )
 }
 
 /// New strands, of which strand 0 has spawned.
@@ -93,7 +102,10 @@ fn spawn_first(alloc: Global) -> Option<Strands<Global>>
     ensures { IfSome result (λ strands. (history : History) × Follows strands history) }
 {
     match Strands::new(alloc) {
-        Ok(mut strands) => strands.spawn(0).is_ok().then_some(strands),
+        Ok(mut strands) => match strands.spawn(0) {
+            Ok(_) => Some(strands),
+            Err(_) => None,
+        },
         Err(AllocError) => None,
     }
 }
@@ -155,16 +167,13 @@ pub(super) fn call_shadow(alloc: Global, heap: &Heap, told: &mut Told) -> bool {
     let Some(strands) = spawn_first(alloc) else {
         return false;
     };
-    match Shadow::new(heap, 3) {
-        Ok(mut shadow) => keeps_new(&strands, &mut shadow),
-        Err(AllocError) => {
-            note(told, "Shadow::new", true);
-            match Shadow::new(heap, 3) {
-                Ok(mut shadow) => keeps_new(&strands, &mut shadow),
-                Err(AllocError) => false,
-            }
-        }
-    }
+    is_made!(
+        told,
+        "Shadow::new",
+        AllocError,
+        Shadow::new(heap, 3),
+        mut shadow => keeps_new(&strands, &mut shadow)
+    )
 }
 
 /// The reads of a reducer are none.

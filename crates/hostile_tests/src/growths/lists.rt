@@ -32,10 +32,13 @@ fn ask_list(heap: &Heap, list: &mut OrderList<&Heap>, has_hint: bool, told: &mut
 pub(super) fn call_list(heap: &Heap, told: &mut Told) -> bool {
     let mut is_right = true;
     for has_hint in &[false, true] {
-        is_right &= match twice!(told, "OrderList::new", AllocError, OrderList::new(heap)) {
-            Ok(mut list) => ask_list(heap, &mut list, *has_hint, told),
-            Err(AllocError) => false,
-        };
+        is_right &= is_made!(
+            told,
+            "OrderList::new",
+            AllocError,
+            OrderList::new(heap),
+            mut list => ask_list(heap, &mut list, *has_hint, told)
+        );
     }
     is_right
 }

@@ -3,7 +3,7 @@
 ghost use Rattle.std.specs.Prelude.{◌≡◌};
 ghost use Rattle.frame_steps.specs.Frames.{Stands};
 
-use super::{Heap, Told, is_text, note};
+use super::{Heap, Told, is_text};
 use crate::worked::{FIB, PAIR};
 use frame_steps::{Frame, FrameFault};
 use model_accesses::{Kind, Rule};
@@ -20,34 +20,44 @@ use text_words::{Act, Monoid, Request, TextFault};
 const PRINTED: &[u8] =
     b"cilk 1\nmem x\nreducer h sum\nfunc main z\nput h 0\ncall fib 10\nget r h\nwrite x r\nend\nfunc fib n\nlet t = n < 2\nif t\nupdate h n\nelse\nlet a = n - 1\nlet b = n - 2\nspawn fib a\ncall fib b\nsync\nend\nend\n";
 
-/// The program, which was read, tells its text, its shape and its elision.
-fn ask_program(heap: &Heap, program: &Program<&Heap>, told: &mut Told) -> bool {
+/// The program tells its text.
+fn is_printed(heap: &Heap, program: &Program<&Heap>, told: &mut Told) -> bool {
     let printed = twice!(told, "Program::print", AllocError, program.print(heap));
-    let is_printed = is_text(&printed, PRINTED);
-    let is_shaped = match twice!(told, "Program::shape", AllocError, program.shape(heap)) {
+    is_text(&printed, PRINTED)
+}
+
+/// Its shape.
+fn is_shaped(heap: &Heap, program: &Program<&Heap>, told: &mut Told) -> bool {
+    match twice!(told, "Program::shape", AllocError, program.shape(heap)) {
         Ok(shape) => shape.cells == 1 && shape.monoids.as_slice() == [Monoid::Sum].as_slice(),
         Err(AllocError) => false,
-    };
-    let is_elided = match twice!(told, "elide", ElideFault::Memory, elide(heap, program, 713)) {
+    }
+}
+
+/// Its elision.
+fn is_elided(heap: &Heap, program: &Program<&Heap>, told: &mut Told) -> bool {
+    match twice!(told, "elide", ElideFault::Memory, elide(heap, program, 713)) {
         Ok(elided) => elided.memory.as_slice() == [55].as_slice() && elided.requests == 713,
         Err(_) => false,
-    };
-    is_printed && is_shaped && is_elided
+    }
+}
+
+/// The program, which was read, tells its text, its shape and its elision.
+fn ask_program(heap: &Heap, program: &Program<&Heap>, told: &mut Told) -> bool {
+    program.functions.as_slice().len() == 2
+        && is_printed(heap, program, told)
+        && is_shaped(heap, program, told)
+        && is_elided(heap, program, told)
 }
 
 pub(super) fn call_program(heap: &Heap, told: &mut Told) -> bool {
-    let parsed = twice!(
+    is_made!(
         told,
         "Program::parse",
         TextFault::Memory,
-        Program::parse(heap, FIB)
-    );
-    match parsed {
-        Ok(program) => {
-            program.functions.as_slice().len() == 2 && ask_program(heap, &program, told)
-        }
-        Err(_) => false,
-    }
+        Program::parse(heap, FIB),
+        program => ask_program(heap, &program, told)
+    )
 }
 
 /// A function that calls another, which writes.
@@ -72,16 +82,14 @@ fn is_called(program: &Program<Global>, frame: &mut Frame<&Heap>, told: &mut Tol
     if !wants(program, frame, Act::Call, 4) {
         return false;
     }
-    match frame.answer(program, &Answer::Same) {
-        Ok(()) => wants(program, frame, Act::Write(0, 5), 7),
-        Err(FrameFault::Memory) => {
-            note(told, "Frame::answer", true)
-                && wants(program, frame, Act::Call, 4)
-                && frame.answer(program, &Answer::Same).is_ok()
-                && wants(program, frame, Act::Write(0, 5), 7)
-        }
-        Err(FrameFault::Strange) => false,
-    }
+    let answered = twice!(
+        told,
+        "Frame::answer",
+        FrameFault::Memory,
+        frame.answer(program, &Answer::Same),
+        wants(program, frame, Act::Call, 4)
+    );
+    answered.is_ok() && wants(program, frame, Act::Write(0, 5), 7)
 }
 
 /// Frames of the program are answered a call, or get room for one.

@@ -70,22 +70,28 @@ fn call_function(strands: &mut Strands<&Heap>, told: &mut Told) -> bool {
         && strands.ret(0) == Ok(Returned::Finished)
 }
 
-/// Asks four new ones for room, to spawn and to call.
+/// Asks new strands for room, to spawn or to call.
+fn ask(heap: &Heap, strands: &mut Strands<&Heap>, turn: u32, told: &mut Told) -> bool {
+    stand(strands, false, false)
+        && match turn {
+            0 => reserve(heap, strands, false, told),
+            1 => reserve(heap, strands, true, told),
+            2 => spawn(strands, told),
+            _ => call_function(strands, told),
+        }
+}
+
+/// Asks four new ones.
 pub(super) fn call_strands(heap: &Heap, told: &mut Told) -> bool {
     let mut is_right = true;
     for turn in 0..4u32 {
-        is_right &= match twice!(told, "Strands::new", AllocError, Strands::new(heap)) {
-            Ok(mut strands) => {
-                stand(&strands, false, false)
-                    && match turn {
-                        0 => reserve(heap, &mut strands, false, told),
-                        1 => reserve(heap, &mut strands, true, told),
-                        2 => spawn(&mut strands, told),
-                        _ => call_function(&mut strands, told),
-                    }
-            }
-            Err(AllocError) => false,
-        };
+        is_right &= is_made!(
+            told,
+            "Strands::new",
+            AllocError,
+            Strands::new(heap),
+            mut strands => ask(heap, &mut strands, turn, told)
+        );
     }
     is_right
 }

@@ -1,5 +1,8 @@
 //! Growths of traces and of their texts.
 
+ghost use Rattle.std.specs.Prelude.{◌<◌};
+ghost use Rattle.text_words.specs.Declarations.{cells_of};
+
 use super::{Heap, Told, is_text};
 use std::alloc::AllocError;
 use text_words::{Monoid, TextFault};
@@ -12,35 +15,39 @@ const TEXT: &[u8] =
 /// Its reducers.
 const MONOIDS: &[Monoid] = &[Monoid::Sum, Monoid::Min];
 
-/// The trace tells its shape, and then the name of its last cell.
+/// The trace tells the name of its third cell.
+fn is_named(heap: &Heap, trace: &Trace<&Heap>, told: &mut Told) -> bool
+    requires { 2 < cells_of trace.now.mems }
+{
+    let mems = trace.mems.as_slice();
+    match twice!(told, "cell_name", AllocError, cell_name(heap, mems, 2)) {
+        Ok(name) => name.as_str() == "a[1]",
+        Err(AllocError) => false,
+    }
+}
+
+/// Its shape, and then the name of its last cell.
 fn tells_shape(heap: &Heap, trace: &Trace<&Heap>, told: &mut Told) -> bool {
     match twice!(told, "Trace::shape", AllocError, trace.shape(heap)) {
         Ok(shape) => {
-            if shape.cells != 3 || shape.monoids.as_slice() != MONOIDS {
-                return false;
-            }
-            let mems = trace.mems.as_slice();
-            match twice!(told, "cell_name", AllocError, cell_name(heap, mems, 2)) {
-                Ok(name) => name.as_str() == "a[1]",
-                Err(AllocError) => false,
-            }
+            shape.cells == 3 && shape.monoids.as_slice() == MONOIDS && is_named(heap, trace, told)
         }
         Err(AllocError) => false,
     }
 }
 
+/// Its text. It has five lines.
+fn is_printed(heap: &Heap, trace: &Trace<&Heap>, told: &mut Told) -> bool {
+    let printed = twice!(told, "Trace::print", AllocError, trace.print(heap));
+    trace.lines.len() == 5 && is_text(&printed, TEXT)
+}
+
 pub(super) fn call_trace(heap: &Heap, told: &mut Told) -> bool {
-    let parsed = twice!(
+    is_made!(
         told,
         "Trace::parse",
         TextFault::Memory,
-        Trace::parse(heap, TEXT)
-    );
-    match parsed {
-        Ok(trace) => {
-            let printed = twice!(told, "Trace::print", AllocError, trace.print(heap));
-            trace.lines.len() == 5 && is_text(&printed, TEXT) && tells_shape(heap, &trace, told)
-        }
-        Err(_) => false,
-    }
+        Trace::parse(heap, TEXT),
+        trace => is_printed(heap, &trace, told) && tells_shape(heap, &trace, told)
+    )
 }
