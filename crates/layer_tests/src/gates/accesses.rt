@@ -1,6 +1,6 @@
 //! Worked accesses of a shadow history, and its memory.
 
-ghost use Rattle.std.specs.Prelude.{◌≡◌, ◌≤◌, IfOk, length};
+ghost use Rattle.std.specs.Prelude.{◌≡◌, ◌<◌, ◌≤◌, IfOk, length};
 ghost use Rattle.shadow_history.specs.Shadow.{StandsOn};
 
 use crate::checks::equal;
@@ -9,6 +9,7 @@ use linked_list_allocator::LocalHeap;
 use shadow_history::{Shadow, Witness, laws};
 use sp_labels::Strands;
 use std::alloc::{AllocError, Allocator, Global};
+use std::process::Abort;
 use std::test::Fail;
 
 /// What a strand does: the accesses are to location 0 or 1.
@@ -239,17 +240,24 @@ fn takes_no_more(
     )
 }
 
-/// A million locations take a thousand times the bytes of a thousand. A heap of as many bytes has room for them, and one of 16 bytes less has
-/// none.
+/// Checks that a million locations take so many bytes, a thousand times those of a thousand. A heap of as many bytes has room for them, and one
+/// of 16 bytes less has none.
+fn check_bytes(rt: &impl Abort, alloc: Global, bytes: usize) -> Result<(), AllocError>
+    requires { 16 < bytes }
+{
+    let of_few = count_bytes(alloc, 64_000, 1_000)?;
+    let of_many = count_bytes(alloc, bytes, 1_000_000)?;
+    let without_room = count_bytes(alloc, bytes - 16, 1_000_000)?;
+    let wanted = (bytes / 1_000, bytes, 0);
+    equal(rt, &"bytes", &(of_few, of_many, without_room), &wanted);
+    Ok(())
+}
+
 #[test]
 fn many_locations_take_one_allocation_or_are_refused(rt: HostRuntime) -> Result<(), Fail> {
     let bytes = count_bytes(rt.alloc(), 64_000_000, 1_000_000)?;
     assert!(rt; 16 < bytes && bytes % 1_000 == 0);
-    let of_few = count_bytes(rt.alloc(), 64_000, 1_000)?;
-    let of_many = count_bytes(rt.alloc(), bytes, 1_000_000)?;
-    let without_room = count_bytes(rt.alloc(), bytes - 16, 1_000_000)?;
-    let wanted = (bytes / 1_000, bytes, 0);
-    equal(&rt, &"bytes", &(of_few, of_many, without_room), &wanted);
+    check_bytes(&rt, rt.alloc(), bytes)?;
     let heap = LocalHeap::new(rt.alloc(), bytes)?;
     assert!(rt; takes_no_more(rt.alloc(), &heap, 1_000_000, bytes)?);
     laws::later_law();

@@ -74,6 +74,19 @@ fn ends(gate: &Gate<Global>, case: &Case, is_stopped: bool) -> bool {
 /// What a stopped gate makes of a request.
 const STOPPED: &[Outcome] = &[(asked!(0, Sync), Err(GateFault::Stopped))];
 
+/// Checks that the gate replies to the list as it is to.
+fn check_replies(
+    rt: &impl Abort,
+    alloc: Global,
+    gate: &mut Gate<Global>,
+    case: &Case,
+) -> Result<(), AllocError> {
+    let (requests, wanted) = case.listed;
+    let replies = judge_all(gate, alloc, requests)?;
+    equal(rt, &case.limit, &replies.as_slice(), &wanted);
+    Ok(())
+}
+
 /// Checks that the gate answers as it is to, and has its end, which stays when it is stopped.
 fn check(
     rt: &impl Abort,
@@ -82,9 +95,7 @@ fn check(
     case: &Case,
 ) -> Result<(), AllocError> {
     assert!(rt; judges(gate, case.outcomes), "limit {}", case.limit);
-    let (requests, wanted) = case.listed;
-    let replies = judge_all(gate, alloc, requests)?;
-    equal(rt, &case.limit, &replies.as_slice(), &wanted);
+    check_replies(rt, alloc, gate, case)?;
     assert!(rt; ends(gate, case, false), "limit {}", case.limit);
     gate.stop();
     assert!(rt;

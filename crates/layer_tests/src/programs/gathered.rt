@@ -78,6 +78,19 @@ pub struct Case<'a> {
     pub found: Result<(), RunFault>,
 }
 
+/// Whether the request is answered. The log takes its receipt.
+fn ask<L: Ledger, R: Wait>(
+    rt: &R,
+    locked: &LockedGate<L>,
+    log: &mut WorkerLog<L>,
+    request: Request,
+) -> bool {
+    match locked.ask(rt, &mut log.seat, request) {
+        Ok(receipt) => log.receipts.push(receipt).is_ok(),
+        Err(_) => false,
+    }
+}
+
 /// Whether all requests of the run are answered, those at these places on the second seat. The log of a seat takes its receipts.
 fn ask_all<L: Ledger, R: Wait>(
     rt: &R,
@@ -91,11 +104,7 @@ fn ask_all<L: Ledger, R: Wait>(
         let Some(log) = logs.get_mut(seat) else {
             return false;
         };
-        let added = match locked.ask(rt, &mut log.seat, run.entries[at].request) {
-            Ok(receipt) => log.receipts.push(receipt).is_ok(),
-            Err(_) => false,
-        };
-        if !added {
+        if !ask(rt, locked, log, run.entries[at].request) {
             return false;
         }
     }
@@ -191,6 +200,19 @@ fn gate(
     }
 }
 
+/// Checks that this is the run, which is not clean.
+fn check_whole(
+    rt: &impl Abort,
+    alloc: Global,
+    whole: &Whole,
+    run: &Run<'_>,
+) -> Result<(), AllocError> {
+    let entries = whole.entries.to_vec(alloc)?;
+    assert!(rt; entries.as_slice() == run.entries && whole.memory.as_slice() == run.memory);
+    assert!(rt; !whole.clean);
+    Ok(())
+}
+
 /// What is gathered from these logs is this run, which is not clean, with its report.
 fn is_gathered<L: Ledger>(
     rt: &impl Abort,
@@ -202,9 +224,8 @@ fn is_gathered<L: Ledger>(
 ) -> Result<(), RunFault> {
     let whole = gather(alloc, program, locked, logs)?;
     let reported = is_reported(alloc, program, &whole, run.told);
-    let entries = whole.entries.to_vec(alloc)?;
-    assert!(rt; entries.as_slice() == run.entries && whole.memory.as_slice() == run.memory);
-    assert!(rt; reported && !whole.clean);
+    check_whole(rt, alloc, &whole, run)?;
+    assert!(rt; reported);
     Ok(())
 }
 

@@ -4,6 +4,7 @@ use super::gathered::REFUSED;
 use frame_steps::{Activation, act_of, apply_answer, cell_of, line_of, result_of};
 use program_text::{Expression, Location, Operand, REGISTERS, Statement};
 use race_gate::Answer;
+use std::process::Abort;
 use text_words::Act;
 
 // The greatest number that a register holds.
@@ -42,14 +43,14 @@ const CELLS: [(Location, u32); 3] = [(Location::Cell(3), 3), (element!(3), 8), (
 
 #[test]
 fn arithmetic_is_modulo_two_to_the_64_and_an_index_modulo_the_length(rt: HostRuntime) {
-    for (expression, wanted) in RESULTS {
+    for (expression, wanted) in &RESULTS {
         assert!(rt;
-            result_of(&[0; REGISTERS], expression) == wanted,
+            result_of(&[0; REGISTERS], *expression) == *wanted,
             "{wanted}"
         );
     }
-    for (location, wanted) in CELLS {
-        assert!(rt; cell_of(&[0; REGISTERS], location) == wanted, "{wanted}");
+    for (location, wanted) in &CELLS {
+        assert!(rt; cell_of(&[0; REGISTERS], *location) == *wanted, "{wanted}");
     }
 }
 
@@ -69,6 +70,17 @@ const ANSWERED: [Answered; 4] = [
     (WRITE, REFUSED, true, 0),
 ];
 
+/// Checks that registers, the second of which is 7, take the answers one after another.
+fn check_answers(rt: &impl Abort, registers: &mut [u64; REGISTERS], answers: &[Answered]) {
+    for (statement, answer, is_one, ok) in answers {
+        assert!(rt;
+            apply_answer(registers, *statement, answer) == *is_one,
+            "{statement:?}"
+        );
+        assert!(rt; registers[0] == *ok && registers[1] == 7, "{statement:?}");
+    }
+}
+
 /// A function begins with an argument of 7, and takes the answers one after another.
 #[test]
 fn a_function_begins_with_ok_and_a_refused_write_clears_it(rt: HostRuntime) {
@@ -76,12 +88,5 @@ fn a_function_begins_with_ok_and_a_refused_write_clears_it(rt: HostRuntime) {
     assert!(rt; begun.function == 3 && begun.place == 0 && begun.join == None);
     assert!(rt; begun.registers[0] == 1 && begun.registers[1] == 7 && begun.registers[2] == 0);
     assert!(rt; act_of(&begun.registers, WRITE) == Some(Act::Write(2, 9)) && line_of(WRITE) == 4);
-    let mut registers = Activation::begin(0, 7).registers;
-    for (statement, answer, is_one, ok) in ANSWERED {
-        assert!(rt;
-            apply_answer(&mut registers, statement, &answer) == is_one,
-            "{statement:?}"
-        );
-        assert!(rt; registers[0] == ok && registers[1] == 7, "{statement:?}");
-    }
+    check_answers(&rt, &mut Activation::begin(0, 7).registers, &ANSWERED);
 }

@@ -11,6 +11,7 @@ use program_text::Program;
 use race_gate::Answer;
 use std::alloc::{AllocError, Global};
 use std::marker::Brand;
+use std::process::Abort;
 use std::sync::Wait;
 use std::sync::ledger::{Blank, Ledger};
 use std::test::Fail;
@@ -185,7 +186,9 @@ fn come<'p, R: Wait>(
 }
 
 // Who comes for a join, and the join whose task is found: none where nobody waits, and Torn where the same call came before.
-const ROW: &[(Comes, Result<Option<u32>, LotFault>)] = &[
+type Coming = (Comes, Result<Option<u32>, LotFault>);
+
+const ROW: &[Coming] = &[
     (Comes::Child(3), Ok(None)),
     (Comes::Task(3), Ok(Some(3))),
     (Comes::Child(3), Err(LotFault::Torn)),
@@ -202,15 +205,25 @@ const ROW: &[(Comes, Result<Option<u32>, LotFault>)] = &[
     (Comes::Task(4_200_000), Ok(Some(4_200_000))),
 ];
 
+fn check_row<'p, R: Abort + Wait>(
+    rt: &R,
+    alloc: Global,
+    program: &'p Program<Global>,
+    lot: &Lot<'p>,
+    row: &[Coming],
+) {
+    for (place, (comes, wanted)) in row.iter().enumerate() {
+        let found = come(rt, alloc, program, lot, comes);
+        equal(rt, &place, &found, wanted);
+    }
+}
+
 // A lot is closed once it is told to be, and not before.
 #[test]
 fn second_comer_gets_the_task(rt: HostRuntime) -> Result<(), Fail> {
     let program = Program::parse(rt.alloc(), PAIR)?;
     let lot = Lot::new(rt.alloc());
-    for (place, (comes, wanted)) in ROW.iter().enumerate() {
-        let found = come(&rt, rt.alloc(), &program, &lot, comes);
-        equal(&rt, &place, &found, wanted);
-    }
+    check_row(&rt, rt.alloc(), &program, &lot, ROW);
     assert!(rt; !lot.look(&rt));
     lot.close(&rt);
     assert!(rt; lot.look(&rt));

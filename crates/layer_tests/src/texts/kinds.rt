@@ -2,6 +2,7 @@
 
 use crate::checks::equal;
 use access_table::{Kind, N, Rule, conflicting, is_memory, kind_of, laws, rule, rule_word, word};
+use std::process::Abort;
 
 /// Two kinds, their rule, and its word.
 type Pair = (Kind, Kind, Rule, Option<&'static str>);
@@ -79,11 +80,8 @@ fn rules(rt: HostRuntime) {
     laws::table_law();
 }
 
-/// Each kind has its word and the word is its own, it conflicts with these, and updates conflict with none.
-#[test]
-fn kinds(rt: HostRuntime) {
-    equal(&rt, &"kinds", &N, &6);
-    for (kind, text, memory, conflicts) in KINDS {
+fn check_kinds(rt: &impl Abort, rows: &[Row]) {
+    for (kind, text, memory, conflicts) in rows {
         let kind = *kind;
         let told = (
             word(kind),
@@ -94,8 +92,15 @@ fn kinds(rt: HostRuntime) {
         let of_update = (rule(Kind::Update, kind), rule(kind, Kind::Update));
         let wanted = (*text, Some(kind), *memory, *conflicts);
         let free = (Rule::Free, Rule::Free);
-        equal(&rt, text, &(told, of_update), &(wanted, free));
+        equal(rt, text, &(told, of_update), &(wanted, free));
     }
+}
+
+/// Each kind has its word and the word is its own, it conflicts with these, and updates conflict with none.
+#[test]
+fn kinds(rt: HostRuntime) {
+    equal(&rt, &"kinds", &N, &6);
+    check_kinds(&rt, KINDS);
     for text in NO_KINDS {
         equal(&rt, text, &kind_of(text), &None);
     }

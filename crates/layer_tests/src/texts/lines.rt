@@ -25,6 +25,28 @@ fn item_of<'a>(scope: &NameScope<'_, '_, Global>, line: &'a [u8]) -> Result<Item
     }
 }
 
+/// The same, as it is shown.
+fn show_item(
+    alloc: Global,
+    scope: &NameScope<'_, '_, Global>,
+    line: &[u8],
+) -> Result<String, AllocError> {
+    format!(in alloc; "{:?}", item_of(scope, line))
+}
+
+/// The lines say what is shown beside them, where this is in scope.
+fn check_lines(
+    rt: &impl Abort,
+    alloc: Global,
+    scope: &NameScope<'_, '_, Global>,
+    cases: &[Line],
+) -> Result<(), Fail> {
+    for (line, wanted) in cases {
+        equal(rt, line, &show_item(alloc, scope, line)?.as_str(), wanted);
+    }
+    Ok(())
+}
+
 /// The lines of a text of that version that declares nothing say what is shown beside them, where these functions are named, so many have
 /// begun, and there are these registers.
 fn check(
@@ -35,16 +57,12 @@ fn check(
     begun: u32,
     registers: &[Name],
     cases: &[Line],
-) -> Result<(), AllocError>
+) -> Result<(), Fail>
     requires { length registers.now ≤ max_registers }
 {
     let names = Names::new(alloc, version);
     let scope = NameScope::new(&names, functions, begun, registers);
-    for (line, wanted) in cases {
-        let shown = format!(in alloc; "{:?}", item_of(&scope, line))?;
-        equal(rt, line, &shown.as_str(), wanted);
-    }
-    Ok(())
+    check_lines(rt, alloc, &scope, cases)
 }
 
 /// Statements of the first version.
@@ -111,6 +129,14 @@ const KINDS: &[Line] = &[
     (b"end", "Ok(Ends)"),
 ];
 
+/// Functions named `main` and `fib`.
+fn name_main_and_fib(alloc: Global) -> Result<FunctionNames<'static, Global>, Fail> {
+    let mut functions = FunctionNames::new(alloc);
+    functions.add("main")?;
+    functions.add("fib")?;
+    Ok(functions)
+}
+
 /// The lines of a text of that version say what is shown beside them, where `main` and `fib` are named, `main` has begun, and the registers
 /// are `n` and `t`.
 fn check_named(
@@ -119,12 +145,9 @@ fn check_named(
     version: Version,
     cases: &[Line],
 ) -> Result<(), Fail> {
-    let mut functions = FunctionNames::new(alloc);
-    functions.add("main")?;
-    functions.add("fib")?;
+    let functions = name_main_and_fib(alloc)?;
     let registers = [Name::new("n"), Name::new("t")];
-    check(rt, alloc, version, &functions, 1, &registers, cases)?;
-    Ok(())
+    check(rt, alloc, version, &functions, 1, &registers, cases)
 }
 
 #[test]
@@ -146,8 +169,7 @@ fn causes(rt: HostRuntime) -> Result<(), Fail> {
 #[test]
 fn kinds(rt: HostRuntime) -> Result<(), Fail> {
     let none = FunctionNames::new(rt.alloc());
-    check(&rt, rt.alloc(), Version::One, &none, 0, &[], KINDS)?;
-    Ok(())
+    check(&rt, rt.alloc(), Version::One, &none, 0, &[], KINDS)
 }
 
 #[test]

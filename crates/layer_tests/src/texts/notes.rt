@@ -2,6 +2,7 @@
 
 use crate::checks::equal;
 use std::alloc::Global;
+use std::process::Abort;
 use std::test::Fail;
 use trace_notes::{Notes, Place, split_place};
 
@@ -61,7 +62,10 @@ const FIRST: &[u8] = b"cilk 1\n# a trace\n#run sort 100\n#at 7 a.c:1, main | x =
 const SECOND: &[u8] =
     b"#at 7 z.c:1\n#at 16 z.c:2\n#at 17 z\xc3\xbc.c:3\n#run the second\n#of y[*] all";
 
-const MARKS: &[(u32, Option<Parts>)] = &[
+/// A mark, and its place if it has one.
+type Mark = (u32, Option<Parts>);
+
+const MARKS: &[Mark] = &[
     (7, Some(("a.c:1", Some("main"), Some("x = 1;")))),
     (8, None),
     (9, None),
@@ -77,7 +81,10 @@ const MARKS: &[(u32, Option<Parts>)] = &[
     (17, None),
 ];
 
-const CELLS: &[(&str, Option<&str>)] = &[
+/// A cell, and its text if it has one.
+type Cell = (&'static str, Option<&'static str>);
+
+const CELLS: &[Cell] = &[
     ("c[3]", Some("the fourth")),
     ("c[0]", Some("an array")),
     ("x", Some("a counter, \"x\"")),
@@ -96,18 +103,26 @@ fn places_are_taken_apart(rt: HostRuntime) {
     }
 }
 
+fn check_places(rt: &impl Abort, notes: &Notes<Global>, marks: &[Mark]) {
+    for (mark, wanted) in marks {
+        equal(rt, mark, &parts(notes.place_of(*mark)), wanted);
+    }
+}
+
+fn check_texts(rt: &impl Abort, notes: &Notes<Global>, cells: &[Cell]) {
+    for (cell, wanted) in cells {
+        equal(rt, cell, &notes.text_of(cell), wanted);
+    }
+}
+
 /// The places of marks, the texts of cells, and the runs.
 #[test]
 fn the_first_note_counts(rt: HostRuntime) -> Result<(), Fail> {
     let mut notes = Notes::new(rt.alloc());
     notes.read(FIRST)?;
     notes.read(SECOND)?;
-    for (mark, wanted) in MARKS {
-        equal(&rt, mark, &parts(notes.place_of(*mark)), wanted);
-    }
-    for (cell, wanted) in CELLS {
-        equal(&rt, cell, &notes.text_of(cell), wanted);
-    }
+    check_places(&rt, &notes, MARKS);
+    check_texts(&rt, &notes, CELLS);
     equal(&rt, &"runs", &notes.runs().len(), &RUNS.len());
     for (at, found) in notes.runs().iter().enumerate() {
         equal(&rt, &at, &Some(found.as_str()), &RUNS.get(at).copied());

@@ -1,9 +1,17 @@
 //! Tests of printing.
 
 use crate::checks::equal;
-use program_text::Program;
+use program_text::{Function, Program};
 use std::alloc::{AllocError, Global};
 use std::test::Fail;
+
+/// Appends all that is read of a function, as it is shown.
+fn show_function(text: &mut String, function: &Function<Global>) -> Result<(), AllocError> {
+    let names = (&function.name, &function.parameter);
+    let lines = (function.line, function.end_line);
+    let parts = (function.registers.as_slice(), function.body.as_slice());
+    write!(text, "{names:?} {lines:?} {parts:?}")
+}
 
 /// All that is read of a program, as it is shown: no two programs are shown alike.
 fn show_program(alloc: Global, program: &Program<Global>) -> Result<String, AllocError> {
@@ -11,10 +19,7 @@ fn show_program(alloc: Global, program: &Program<Global>) -> Result<String, Allo
     let head = (program.version, program.main(), mems, reducers);
     let mut text = format!(in alloc; "{head:?}")?;
     for function in program.functions.as_slice() {
-        let names = (&function.name, &function.parameter);
-        let lines = (function.line, function.end_line);
-        let parts = (function.registers.as_slice(), function.body.as_slice());
-        write!(text, "{names:?} {lines:?} {parts:?}")?;
+        show_function(&mut text, function)?;
     }
     Ok(text)
 }

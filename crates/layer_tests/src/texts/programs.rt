@@ -46,6 +46,27 @@ fn check_function(
     }
 }
 
+/// Checks that these statements stand in the functions.
+fn check_statements(rt: &impl Abort, functions: &[Function<Global>], statements: &[Placed]) {
+    for (function, place, statement) in statements {
+        let found = match functions.get(*function) {
+            Some(function) => function.body.as_slice().get(*place).copied(),
+            None => None,
+        };
+        equal(rt, place, &found, &Some(*statement));
+    }
+}
+
+/// Checks that the program has this.
+fn check_contents(rt: &impl Abort, program: &Program<Global>, wanted: &Contents) {
+    let functions = program.functions.as_slice();
+    let counts = (program.main(), functions.len());
+    equal(rt, &"main", &counts, &(wanted.main, wanted.functions.len()));
+    for (function, (outline, registers)) in functions.iter().zip(wanted.functions) {
+        check_function(rt, function, outline, registers);
+    }
+}
+
 /// Checks that the text means a program that has this, and in which these statements stand.
 fn check(
     rt: &impl Abort,
@@ -54,19 +75,8 @@ fn check(
     statements: &[Placed],
 ) -> Result<(), TextFault> {
     let program = Program::parse(alloc, wanted.text)?;
-    let functions = program.functions.as_slice();
-    let counts = (program.main(), functions.len());
-    equal(rt, &"main", &counts, &(wanted.main, wanted.functions.len()));
-    for (function, (outline, registers)) in functions.iter().zip(wanted.functions) {
-        check_function(rt, function, outline, registers);
-    }
-    for (function, place, statement) in statements {
-        let found = match functions.get(*function) {
-            Some(function) => function.body.as_slice().get(*place).copied(),
-            None => None,
-        };
-        equal(rt, place, &found, &Some(*statement));
-    }
+    check_contents(rt, &program, wanted);
+    check_statements(rt, program.functions.as_slice(), statements);
     Ok(())
 }
 
