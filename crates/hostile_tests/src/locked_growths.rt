@@ -120,28 +120,6 @@ fn gather_refused<'h, L: Ledger>(
 }
 
 /// PAIR's run is asked and gathered. The growth of one number is refused while it is asked, and that of the other while it is gathered.
-fn ask_and_gather<'h, L: Ledger, R: Wait>(
-    rt: &R,
-    heap: &'h Heap,
-    program: &Program<&'h Heap>,
-    asking: u64,
-    gathering: u64,
-    blank: Blank,
-) -> Option<(Found, Found)>
-    requires name { blank.name ≡ L.name }
-    requires all { blank.parts ≡ L.parts }
-    requires parts { blank.parts ≡ 1 }
-{
-    let Ok(gate) = gate_for(heap, program) else {
-        return None;
-    };
-    let (locked, seat) = LockedGate::<L, &Heap>::new(gate, blank, 1);
-    let (log, asked) = ask_refused(rt, heap, &locked, seat, asking)?;
-    let gathered = gather_refused(heap, program, locked, log, gathering)?;
-    Some((asked, gathered))
-}
-
-/// The same, where PAIR is read first.
 fn gathers<L: Ledger, R: Wait>(
     rt: &R,
     heap: &Heap,
@@ -154,10 +132,16 @@ fn gathers<L: Ledger, R: Wait>(
     requires parts { blank.parts ≡ 1 }
 {
     heap.refuse(0);
-    match Program::parse(heap, PAIR) {
-        Ok(program) => ask_and_gather::<L, R>(rt, heap, &program, asking, gathering, blank),
-        Err(_) => None,
-    }
+    let Ok(program) = Program::parse(heap, PAIR) else {
+        return None;
+    };
+    let Ok(gate) = gate_for(heap, &program) else {
+        return None;
+    };
+    let (locked, seat) = LockedGate::<L, &Heap>::new(gate, blank, 1);
+    let (log, asked) = ask_refused(rt, heap, &locked, seat, asking)?;
+    let gathered = gather_refused(heap, &program, locked, log, gathering)?;
+    Some((asked, gathered))
 }
 
 /// Does so, and once more with all memory. Of asking and gathering that of which no growth is refused has memory.

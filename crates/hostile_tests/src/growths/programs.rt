@@ -26,7 +26,7 @@ fn is_printed(heap: &Heap, program: &Program<&Heap>, told: &mut Told) -> bool {
     is_text(&printed, PRINTED)
 }
 
-/// Its shape.
+/// The program tells its shape.
 fn is_shaped(heap: &Heap, program: &Program<&Heap>, told: &mut Told) -> bool {
     match twice!(told, "Program::shape", AllocError, program.shape(heap)) {
         Ok(shape) => shape.cells == 1 && shape.monoids.as_slice() == [Monoid::Sum].as_slice(),
@@ -34,7 +34,7 @@ fn is_shaped(heap: &Heap, program: &Program<&Heap>, told: &mut Told) -> bool {
     }
 }
 
-/// Its elision.
+/// The program tells its elision.
 fn is_elided(heap: &Heap, program: &Program<&Heap>, told: &mut Told) -> bool {
     match twice!(told, "elide", ElideFault::Memory, elide(heap, program, 713)) {
         Ok(elided) => elided.memory.as_slice() == [55].as_slice() && elided.requests == 713,

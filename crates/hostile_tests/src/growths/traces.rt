@@ -26,7 +26,7 @@ fn is_named(heap: &Heap, trace: &Trace<&Heap>, told: &mut Told) -> bool
     }
 }
 
-/// Its shape, and then the name of its last cell.
+/// The trace tells its shape, and then the name of its last cell.
 fn tells_shape(heap: &Heap, trace: &Trace<&Heap>, told: &mut Told) -> bool {
     match twice!(told, "Trace::shape", AllocError, trace.shape(heap)) {
         Ok(shape) => {
@@ -36,7 +36,7 @@ fn tells_shape(heap: &Heap, trace: &Trace<&Heap>, told: &mut Told) -> bool {
     }
 }
 
-/// Its text. It has five lines.
+/// The trace tells its text. It has five lines that ask for something.
 fn is_printed(heap: &Heap, trace: &Trace<&Heap>, told: &mut Told) -> bool {
     let printed = twice!(told, "Trace::print", AllocError, trace.print(heap));
     trace.lines.len() == 5 && is_text(&printed, TEXT)
