@@ -11,7 +11,7 @@ use crate::diagnosis::diagnose;
 use crate::hint::hint;
 use crate::look::{Look, Paint, push_painted, push_place, push_quote, push_sign_below};
 use crate::meant::Meant;
-use crate::mistake::{Mistake, title_and_help};
+use crate::mistake::Mistake;
 use crate::part::{Span, span_of};
 use crate::scene::{Scene, words_of};
 use crate::source::Source;
@@ -35,7 +35,7 @@ fn push_fault(
 {
     push_painted(text, look, Paint::Red, "error");
     text.push_words(": ");
-    text.push_words(title_and_help(mistake).0);
+    text.push_words(mistake.title());
     text.push_words("\n");
     push_place(text, look, file, number);
     push_quote(text, look, source, number);

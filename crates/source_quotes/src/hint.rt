@@ -7,7 +7,7 @@ use crate::hint_names::{nearest_name, note_unknown};
 use crate::hint_words::{note_element, note_form, note_range, note_word};
 use crate::look::Look;
 use crate::meant::Meant;
-use crate::mistake::{HeaderMistake, Mistake, NestingMistake, NumberMistake, title_and_help};
+use crate::mistake::{HeaderMistake, Mistake, NestingMistake, NumberMistake};
 use crate::near::Nearest;
 use crate::notes::Notes;
 use crate::part::Part;
@@ -94,7 +94,7 @@ pub(crate) fn hint(
         Mistake::NoMain => note_main(&mut notes, scene),
         Mistake::Byte(_) | Mistake::Header(_) | Mistake::Limit(_) => {}
     }
-    let (_, help) = title_and_help(found.mistake);
+    let help = found.mistake.help();
     if !help.is_empty() {
         notes.add_help(help);
     }

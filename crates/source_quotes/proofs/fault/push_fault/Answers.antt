@@ -10,6 +10,6 @@ returns c =
     (these _ _ _ _ c.push_sign_below.ensures (ap (λ line. sign_below c.args.look Red line c.args.span 94) c.line.ensures)) in
     two_adds _ _ _ _ _
     (four_adds _ _ _ _ _ _ _ _ _
-    (four_adds _ _ _ _ _ _ _ _ _ c.push_painted.ensures c.push_words.ensures (these _ _ _ _ c.push_words-2.ensures c.title_and_help.ensures) c.push_words-3.ensures)
+    (four_adds _ _ _ _ _ _ _ _ _ c.push_painted.ensures c.push_words.ensures (these _ _ _ _ c.push_words-2.ensures c.title.ensures) c.push_words-3.ensures)
     c.push_place.ensures quoted c.push_words-4.ensures)
     c.push_bytes.ensures
