@@ -41,6 +41,19 @@ report_with clean entries memory refusals =
     (member (codes "memory") memory
     (member (codes "refusals") (array (items_of refusals)) (schedules_told clean)))))
 
+-- what a report tells before its refusals, and no refusal
+abbrev pub bare_told : Bool → ℕ → Data → Data
+bare_told clean entries memory =
+    object (member (codes "clean") (boolean clean)
+    (member (codes "entries") (number (unsigned entries))
+    (member (codes "memory") memory
+    (member (codes "refusals") (array (items_of [])) no_members))))
+
+-- the text behind the refusals of a report
+abbrev pub end_text : Bool → List ℕ
+end_text true = codes ",\"schedules\":\"clean for every schedule\"}"
+end_text false = codes "}"
+
 -- the report of these entries, oldest first, that leave these values in the cells
 abbrev pub report_told : Known → List Entry → List ℕ → Data
 report_told known entries memory =

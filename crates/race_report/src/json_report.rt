@@ -14,7 +14,7 @@ ghost use Rattle.model_histories.specs.Extensions.{IsClean};
 ghost use Rattle.verdict_lines.specs.VerdictText.{kind_asked};
 ghost use Rattle.race_report.specs.Refusals.{name_asked, line_of_entry, answer_told, refusals_told};
 ghost use Rattle.race_report.specs.RefusalValues.{name_text, refusal_in};
-ghost use Rattle.race_report.specs.ReportText.{cells_told, memory_told, report_with, report_text};
+ghost use Rattle.race_report.specs.ReportText.{cells_told, memory_told, bare_told, end_text, report_with, report_text};
 ghost use Rattle.race_report.specs.Conditions.{shape_known, IsTellable, AreTellable};
 
 use crate::printer::Printer;
@@ -23,7 +23,7 @@ use locked_replay::{Entries, Whole};
 use model_accesses::Witness;
 use program_text::Program;
 use race_gate::{Answer, Entry};
-use serde_json::{Map, Value, json, put};
+use serde_json::{Map, Value, put};
 use std::alloc::{AllocError, Allocator, Global};
 use text_words::{Act, Mem};
 use trace_text::{memory_at, reducer_name};
@@ -138,17 +138,21 @@ fn refusal_at<'a, A: Allocator, B: Allocator>(
     refusal_of(alloc, program, entries, number, entries.get(at))
 }
 
-/// Adds the refusals among these entries, in order, and the bracket behind them.
+/// For how many bytes of each entry a report asks room at once, since a text that grows may be moved.
+const BYTES_OF_ENTRY: usize = 16;
+
+/// Adds the refusals among these entries, in order, and the two brackets behind them.
 fn push_refusals<A: Allocator, B: Allocator>(
     alloc: Global,
-    text: Vec<u8>,
+    mut text: Vec<u8>,
     program: &Program<A>,
     entries: &Entries<B>,
 ) -> Result<Vec<u8>, AllocError>
     requires { AreTellable (shape_known (contents program.now).known) entries.now.items }
-    ensures { IfOk result (λ told. told.items ≡ text.items ++
-        items_text false (items_of (refusals_told (contents program.now).known entries.now.items))) }
+    ensures { IfOk result (λ told. told.items ≡ (text.items ++
+        items_text false (items_of (refusals_told (contents program.now).known entries.now.items))) ++ codes "}") }
 {
+    let _room = text.reserve(entries.len().saturating_mul(BYTES_OF_ENTRY));
     let mut printer = Printer::new(alloc, text)?;
     for at in 0..entries.len() {
         let refusal = refusal_at(alloc, program, entries, at, at + 1);
@@ -194,44 +198,41 @@ fn memory_value(alloc: Global, mems: &[Mem], values: &[u64]) -> Result<Value, Al
     Ok(Value::from(members))
 }
 
-/// The report of a clean run with so many entries and this memory.
-fn clean_value(alloc: Global, entries: usize, memory: Value) -> Result<Value, AllocError>
-    ensures { IfOk result (λ value. view value ≡ report_with true entries (view memory) []) }
+/// The report of a run up to its refusals, as one with no refusal.
+fn bare_value(
+    alloc: Global,
+    clean: bool,
+    entries: usize,
+    memory: Value,
+) -> Result<Value, AllocError>
+    ensures { IfOk result (λ value. view value ≡ bare_told clean entries (view memory)) }
 {
-    json!(in alloc; {
-        "clean": true,
-        "entries": entries,
-        "memory": memory,
-        "refusals": [],
-        "schedules": "clean for every schedule"
-    })
+    let mut members = Map::new(alloc);
+    put(&mut members, alloc, "memory", memory)?;
+    put(&mut members, alloc, "clean", Value::from(clean))?;
+    put(&mut members, alloc, "entries", Value::from(entries))?;
+    put(
+        &mut members,
+        alloc,
+        "refusals",
+        Value::from(Vec::new(alloc)),
+    )?;
+    Ok(Value::from(members))
 }
 
-/// The report of a run that is not clean, but for its refusals.
-fn bare_value(alloc: Global, entries: usize, memory: Value) -> Result<Value, AllocError>
-    ensures { IfOk result (λ value. view value ≡ report_with false entries (view memory) []) }
-{
-    json!(in alloc; {
-        "clean": false,
-        "entries": entries,
-        "memory": memory,
-        "refusals": []
-    })
-}
-
-/// For how many bytes of each entry a report asks room at once, since a text that grows may be moved.
-const BYTES_OF_ENTRY: usize = 16;
-
-/// The text of the report of a run that is not clean, up to its first refusal: what is told with no refusal, without the two brackets at
-/// its end.
-fn open_text(alloc: Global, entries: usize, memory: Value) -> Result<Vec<u8>, AllocError>
+/// The text of the report of a run up to its first refusal: what is told with no refusal, without the two brackets at its end.
+fn open_text(
+    alloc: Global,
+    clean: bool,
+    entries: usize,
+    memory: Value,
+) -> Result<Vec<u8>, AllocError>
     requires { has_float (view memory) ≡ false }
-    ensures { IfOk result (λ text. (refusals : List Data) → text.items ++ (items_text false (items_of refusals) ++ codes "}") ≡
-        compact_text (report_with false entries (view memory) refusals)) }
+    ensures { IfOk result (λ text. (refusals : List Data) → text.items ++ (items_text false (items_of refusals) ++ end_text clean) ≡
+        compact_text (report_with clean entries (view memory) refusals)) }
 {
-    let mut text = bare_value(alloc, entries, memory)?.to_vec(alloc)?;
+    let mut text = bare_value(alloc, clean, entries, memory)?.to_vec(alloc)?;
     text.truncate(text.len() - 2);
-    let _room = text.reserve(entries.saturating_mul(BYTES_OF_ENTRY));
     Ok(text)
 }
 
@@ -252,12 +253,10 @@ pub fn report<A: Allocator, B: Allocator>(
     ensures { IfOk result (λ text. text.items ≡ report_text (contents program.now).known whole.now.entries.items whole.now.memory.items) }
 {
     let memory = memory_value(alloc, program.mems.as_slice(), whole.memory.as_slice())?;
-    let entries = whole.entries.len();
+    let mut text = open_text(alloc, whole.clean, whole.entries.len(), memory)?;
     if whole.clean {
-        return clean_value(alloc, entries, memory)?.to_vec(alloc);
+        text.extend_from_slice(b"],\"schedules\":\"clean for every schedule\"}")?;
+        return Ok(text);
     }
-    let text = open_text(alloc, entries, memory)?;
-    let mut text = push_refusals(alloc, text, program, &whole.entries)?;
-    text.push(b'}')?;
-    Ok(text)
+    push_refusals(alloc, text, program, &whole.entries)
 }

@@ -1,6 +1,6 @@
 //! Refusals in the text of a report.
 
-ghost use Rattle.std.specs.Prelude.{◌≡◌, ◌++◌, ◌∷◌, [], ℕ, List, false, map, IfOk, OnOk};
+ghost use Rattle.std.specs.Prelude.{◌≡◌, ◌++◌, ◌∷◌, [], ℕ, List, false, codes, map, IfOk, OnOk};
 ghost use Rattle.std.specs.Option.{option_map, option_to_list};
 ghost use Rattle.serde_json.specs.Data.{Data, array};
 ghost use Rattle.serde_json.specs.View.{items_of};
@@ -102,14 +102,14 @@ impl<'a> Printer<'a> {
         }
     }
 
-    /// The text with all items and the bracket behind them.
+    /// The text with all items, and the two brackets that end the array and the report.
     pub(crate) fn finish(self, alloc: Global) -> Result<Vec<u8>, AllocError>
-        ensures { IfOk result (λ text. text.items ≡ text_with self.entry []) }
+        ensures { IfOk result (λ text. text.items ≡ text_with self.entry [] ++ codes "}") }
     {
         let mut printer = self;
         printer.print(alloc)?;
         let Printer { mut text, .. } = printer;
-        text.push(b']')?;
+        text.extend_from_slice(b"]}")?;
         Ok(text)
     }
 }

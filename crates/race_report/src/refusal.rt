@@ -1,7 +1,8 @@
 //! A refusal and its witness as values that `serde_json` prints.
 
 ghost use Rattle.std.specs.Prelude.{◌≡◌, IfOk, OnOk, string_bytes};
-ghost use Rattle.serde.specs.Event.{Logs, text as text_event};
+ghost use Rattle.serde.specs.Event.{Logs, Sends, Then, field_key, text as text_event};
+ghost use Rattle.serde.specs.declared.name.Case.TheVariants.{AsIs};
 ghost use Rattle.serde_json.specs.Data.{string};
 ghost use Rattle.serde_json.specs.Events.{SendsValue};
 ghost use Rattle.trace_text.specs.Shapes.{name_in};
@@ -60,6 +61,19 @@ impl Serialize for AskedName<'_> {
     }
 }
 
+/// Sends a member of an object.
+#[inline(always)]
+fn send_member<T: Serialize, S: Serializer>(
+    out: &mut S,
+    key: &str,
+    value: &T,
+) -> Result<(), S::Error>
+    ensures { OnOk result (Then (Sends (field_key key.now AsIs)) (T.writes value.now) (S.written out.old) (S.written out.new)) }
+{
+    out.key(key)?;
+    value.serialize(out)
+}
+
 /// The witness of a refusal, with the line of its entry.
 #[derive(Clone, Copy)]
 pub(crate) struct LinedWitness {
@@ -71,16 +85,12 @@ impl Described for LinedWitness {
     ghost writes = { λ lined. SendsValue (witness_told lined.line lined.witness) };
 }
 
-// A `u32` is sent as a `u64` here, since its `serialize` would be a call of its own.
 impl Serialize for LinedWitness {
     fn serialize<S: Serializer>(&self, out: &mut S) -> Result<(), S::Error> {
         out.begin_map(Some(3))?;
-        out.key("entry")?;
-        out.u64(self.witness.entry as u64)?;
-        out.key("line")?;
-        out.u64(self.line as u64)?;
-        out.key("strand")?;
-        out.u64(self.witness.strand as u64)?;
+        send_member(out, "entry", &self.witness.entry)?;
+        send_member(out, "line", &self.line)?;
+        send_member(out, "strand", &self.witness.strand)?;
         out.end_map()
     }
 }
@@ -107,18 +117,12 @@ impl Described for Refusal<'_> {
 impl Serialize for Refusal<'_> {
     fn serialize<S: Serializer>(&self, out: &mut S) -> Result<(), S::Error> {
         out.begin_map(Some(6))?;
-        out.key("entry")?;
-        self.number.serialize(out)?;
-        out.key("line")?;
-        out.u64(self.request.line as u64)?;
-        out.key("name")?;
-        self.name.serialize(out)?;
-        out.key("rule")?;
-        self.rule.serialize(out)?;
-        out.key("strand")?;
-        out.u64(self.request.strand as u64)?;
-        out.key("witness")?;
-        self.witness.serialize(out)?;
+        send_member(out, "entry", &self.number)?;
+        send_member(out, "line", &self.request.line)?;
+        send_member(out, "name", &self.name)?;
+        send_member(out, "rule", &self.rule)?;
+        send_member(out, "strand", &self.request.strand)?;
+        send_member(out, "witness", &self.witness)?;
         out.end_map()
     }
 }

@@ -1,4 +1,4 @@
-use Rattle.std.proofs.Common.{◌≡◌, ◌++◌, ◌∙◌, ℕ, Bool, true, false, List, [], codes, length, ap, sym, append_assoc}
+use Rattle.std.proofs.Common.{◌≡◌, ◌++◌, ◌∙◌, ℕ, Bool, false, List, [], codes, length, ap, sym, append_assoc}
 use Rattle.std.proofs.lemmas.Result.{IfOk-weaker}
 use Rattle.serde_json.specs.Data.{Data}
 use Rattle.serde_json.specs.View.{view, items_of}
@@ -8,10 +8,9 @@ use Rattle.text_words.specs.Values.{Known}
 use Rattle.model_histories.specs.declared.answer.Entry.{Entry}
 use Rattle.program_text.specs.Programs.{contents}
 use Rattle.race_report.specs.Refusals.{refusals_told}
-use Rattle.race_report.specs.ReportText.{is_clean, memory_told, report_with, report_told}
+use Rattle.race_report.specs.ReportText.{is_clean, memory_told, end_text, report_with, report_told, report_text}
 use Rattle.race_report.proofs.Floats.{memory_whole}
 use Rattle.race_report.proofs.CleanRuns.{told_clean, none_told}
-use Rattle.race_report.proofs.ReportTexts.{bare_whole}
 use Rattle.race_report.proofs.json_report.report.Goals as goal
 
 -- the parts as they were made are those of the report
@@ -30,19 +29,16 @@ returns-then-whole g c =
     let known = (contents c.args.program.now).known in
     let entries = c.args.whole.now.entries.items in
     let clean = c.args.whole.now.clean in
-    let count = c.len-entries.result in
+    let count = c.len.result in
     let memory = view c.in_ok-memory.memory in
-    let none : [] ≡ refusals_told known entries = none_told known entries clean c.requires.clean c.if-whole.true in
+    let start = c.in_ok-text.text.items in
     let told : report_with clean count memory (refusals_told known entries) ≡ report_told known entries c.args.whole.now.memory.items =
     parts_told known entries count c.args.whole.now.memory.items c.as_slice-2.result.now c.as_slice.result.now clean memory
-    c.len-entries.ensures c.as_slice-2.ensures.value c.as_slice.ensures (told_clean known entries clean c.requires.clean) c.in_ok-memory.ensures in
-    let whole : has_float memory ≡ false = ap has_float c.in_ok-memory.ensures ∙ memory_whole c.as_slice.result.now c.as_slice-2.result.now in
-    let value : view c.in_ok-clean_value.field-0 ≡ report_with true count memory [] = c.in_ok-clean_value.ensures in
-    let flat : has_float (view c.in_ok-clean_value.field-0) ≡ false = ap has_float value ∙ bare_whole true count memory whole in
-    let as_clean : report_with clean count memory (refusals_told known entries) ≡ report_with true count memory (refusals_told known entries) =
-    ap (λ (is : Bool). report_with is count memory (refusals_told known entries)) c.if-whole.true in
-    IfOk-weaker c.to_vec.result _ _ (λ text is. is flat ∙ ap compact_text
-    (value ∙ ap (λ (refusals : List Data). report_with true count memory refusals) none ∙ sym as_clean ∙ told)) c.to_vec.ensures.text
+    c.len.ensures c.as_slice-2.ensures.value c.as_slice.ensures (told_clean known entries clean c.requires.clean) c.in_ok-memory.ensures in
+    let none : [] ≡ refusals_told known entries = none_told known entries clean c.requires.clean c.if-whole.true in
+    let ended : c.extend_from_slice.new.self.items ≡ start ++ (codes "]" ++ end_text clean) =
+    c.in_ok-extend_from_slice.ensures.items ∙ ap (λ (is : Bool). start ++ (codes "]" ++ end_text is)) (sym c.if-whole.true) in
+    ended ∙ c.in_ok-text.ensures [] ∙ ap compact_text (ap (λ (refusals : List Data). report_with clean count memory refusals) none ∙ told)
 
 pub open_text-requires : goal.open_text-requires
 open_text-requires g c = ap has_float c.in_ok-memory.ensures ∙ memory_whole c.as_slice.result.now c.as_slice-2.result.now
@@ -52,15 +48,15 @@ returns g c =
     let known = (contents c.args.program.now).known in
     let entries = c.args.whole.now.entries.items in
     let clean = c.args.whole.now.clean in
-    let count = c.len-entries.result in
+    let count = c.len.result in
     let memory = view c.in_ok-memory.memory in
-    let refusals = refusals_told known entries in
-    let told : report_with clean count memory refusals ≡ report_told known entries c.args.whole.now.memory.items =
+    let start = c.in_ok-text.text.items in
+    let told : report_with clean count memory (refusals_told known entries) ≡ report_told known entries c.args.whole.now.memory.items =
     parts_told known entries count c.args.whole.now.memory.items c.as_slice-2.result.now c.as_slice.result.now clean memory
-    c.len-entries.ensures c.as_slice-2.ensures.value c.as_slice.ensures (told_clean known entries clean c.requires.clean) c.in_ok-memory.ensures in
-    let as_racy : report_with clean count memory refusals ≡ report_with false count memory refusals =
-    ap (λ (is : Bool). report_with is count memory refusals) c.if-whole.false in
-    let ended : c.push.new.self.items ≡ (c.in_ok-text.text.items ++ items_text false (items_of refusals)) ++ codes "}" =
-    c.in_ok-push.ensures.items ∙ ap (λ (text : List ℕ). text ++ codes "}") c.in_ok-text-2.ensures in
-    ended ∙ append_assoc c.in_ok-text.text.items (items_text false (items_of refusals)) (codes "}") ∙ c.in_ok-text.ensures refusals ∙
-    ap compact_text (sym as_racy ∙ told)
+    c.len.ensures c.as_slice-2.ensures.value c.as_slice.ensures (told_clean known entries clean c.requires.clean) c.in_ok-memory.ensures in
+    let refusals = refusals_told known entries in
+    let joined : (text : List ℕ) → text ≡ (start ++ items_text false (items_of refusals)) ++ codes "}" →
+    text ≡ report_text known entries c.args.whole.now.memory.items =
+    λ text is. is ∙ ap (λ (clear : Bool). (start ++ items_text false (items_of refusals)) ++ end_text clear) (sym c.if-whole.false) ∙
+    append_assoc start (items_text false (items_of refusals)) (end_text clean) ∙ c.in_ok-text.ensures refusals ∙ ap compact_text told in
+    IfOk-weaker c.push_refusals.result _ _ (λ text is. joined text.items is) c.push_refusals.ensures
