@@ -28,5 +28,5 @@ pub use opening::open_gate;
 pub use packed_history::Entries;
 pub use run_replay::{ReplayFault, replay};
 pub use seat::Seat;
-pub use whole::{Whole, check_run, gather, is_clean};
+pub use whole::{Whole, check_run, gather, is_clean, whole_of_gate};
 pub use worker::WorkerLog;

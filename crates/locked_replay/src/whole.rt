@@ -90,17 +90,18 @@ pub fn check_run<A: Allocator + Copy, B: Allocator>(
     }
 }
 
-/// What [`check_run`] answers of this gate, and where that is Ok its entries, the oldest first, and what its cells hold. What else the gate
-/// kept is let go before the replay, which may have its room.
-fn parts_of<A: Allocator + Copy, B: Allocator>(
+/// The finished run of the program that the gate's history is, or what [`check_run`] answers of this gate. What else the gate kept is let go
+/// before the replay, which may have its room.
+pub fn whole_of_gate<A: Allocator + Copy, B: Allocator>(
     alloc: A,
     program: &Program<B>,
     gate: ShortGate<A>,
-) -> Result<(Entries<A>, Vec<u64, A>), RunFault>
+) -> Result<Whole<A>, RunFault>
     ensures shape { OnOk result (gate.shape ≡ shape_in program.now) }
-    ensures entries { IfOk result (λ parts. reverse parts.0.items ≡ gate.history) }
-    ensures memory { IfOk result (λ parts. parts.1.items ≡ gate.memory) }
-    ensures run { OnOk result (IsFinishedRun program.now.functions (shape_in program.now) gate.history) }
+    ensures entries { IfOk result (λ whole. reverse whole.entries.items ≡ gate.history) }
+    ensures memory { IfOk result (λ whole. whole.memory.items ≡ gate.memory) }
+    ensures clean { IfOk result (λ whole. IsTrue whole.clean ↔ IsClean (reverse whole.entries.items)) }
+    ensures run { IfOk result (λ whole. IsFinishedRun program.now.functions (shape_in program.now) (reverse whole.entries.items)) }
     ensures strange { result ≡ Err RunFault.Strange → IsStrangeGate program.now.functions (shape_in program.now) gate }
     ensures faults { ¬ (result ≡ Err RunFault.Limit) × ¬ (result ≡ Err RunFault.Stopped) × ¬ (result ≡ Err RunFault.Torn) }
 {
@@ -110,38 +111,16 @@ fn parts_of<A: Allocator + Copy, B: Allocator>(
     }
     let (entries, memory) = gate.into_parts();
     match follow(alloc, program, &entries) {
-        Ok(()) => Ok((entries, memory)),
+        Ok(()) => {
+            let clean = is_clean(&entries);
+            Ok(Whole {
+                entries,
+                memory,
+                clean,
+            })
+        }
         Err(fault) => Err(fault_of(fault)),
     }
-}
-
-/// What [`gather`] answers of the gate that it took out of its lock. Stopped where the gate is stopped, else Torn where the logs are not
-/// whole, else Strange where the gate is not that of a finished run of the program; Memory at a refused growth.
-fn whole_of<L: Ledger, A: Allocator + Copy, B: Allocator>(
-    alloc: A,
-    program: &Program<B>,
-    gate: ShortGate<A>,
-    logs: Vec<WorkerLog<L, A>, A>,
-) -> Result<Whole<A>, RunFault>
-    ensures shape { OnOk result (gate.shape ≡ shape_in program.now) }
-    ensures entries { IfOk result (λ whole. whole.entries.items ≡ reverse gate.history) }
-    ensures memory { IfOk result (λ whole. whole.memory.items ≡ gate.memory) }
-    ensures clean { IfOk result (λ whole. IsTrue whole.clean ↔ IsClean gate.history) }
-    ensures logs { OnOk result (AreWhole (reverse gate.history) logs.items) }
-    ensures run { OnOk result (IsFinishedRun program.now.functions (shape_in program.now) gate.history) }
-    ensures stopped { gate.stopped ≡ true → result ≡ Err RunFault.Stopped }
-    ensures faults { IfErr result (HasFault program.now.functions (shape_in program.now) gate logs.items) }
-{
-    check_logs(alloc, &gate, logs.as_slice())?;
-    // The replay may have the room of the receipts.
-    drop(logs);
-    let (entries, memory) = parts_of(alloc, program, gate)?;
-    let clean = is_clean(&entries);
-    Ok(Whole {
-        entries,
-        memory,
-        clean,
-    })
 }
 
 /// Takes the gate out of its lock. Ok where the logs are whole and the history is a finished run of the program; where nothing was refused
@@ -166,5 +145,8 @@ pub fn gather<L: Ledger, A: Allocator + Copy, B: Allocator>(
     ensures limit { ¬ (result ≡ Err RunFault.Limit) }
 {
     let gate = locked.into_gate();
-    whole_of(alloc, program, gate, logs)
+    check_logs(alloc, &gate, logs.as_slice())?;
+    // The replay may have the room of the receipts.
+    drop(logs);
+    whole_of_gate(alloc, program, gate)
 }

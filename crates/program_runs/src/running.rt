@@ -8,8 +8,8 @@ ghost use Rattle.program_runs.specs.Runs.{IsWholeRun, LacksRun};
 
 use crate::door::{Door, DoorGate};
 use locked_replay::{
-    LockedGate, ReplayFault, RunFault, Seat, Whole, WorkerLog, check_run, gather, is_clean,
-    open_gate, replay,
+    LockedGate, ReplayFault, RunFault, Seat, Whole, WorkerLog, check_run, gather, open_gate,
+    replay, whole_of_gate,
 };
 use program_text::Program;
 use race_gate::ShortGate;
@@ -223,7 +223,7 @@ pub fn run_by_workers<A: Allocator + Copy + Send + Sync, D: Door + Sync, R: Thre
 }
 
 /// The finished run whose history the gate has, of at most `limit` entries.
-fn whole_of_gate<A: Allocator + Copy>(
+fn take_run<A: Allocator + Copy>(
     alloc: A,
     program: &Program<Global>,
     gate: ShortGate<A>,
@@ -233,17 +233,11 @@ fn whole_of_gate<A: Allocator + Copy>(
     ensures whole { IfOk result (IsWholeRun program.now limit) }
     ensures fault { IfErr result (LacksRun program.now.functions (shape_in program.now) limit) }
 {
-    check_run(alloc, program, &gate)?;
-    let (entries, memory) = gate.into_parts();
-    if entries.len() > limit as usize {
+    let taken = whole_of_gate(alloc, program, gate)?;
+    if taken.entries.len() > limit as usize {
         return Err(RunFault::Limit);
     }
-    let clean = is_clean(&entries);
-    Ok(Whole {
-        entries,
-        memory,
-        clean,
-    })
+    Ok(taken)
 }
 
 /// As [`run_by_workers`], by one worker that runs each child before what follows its spawn, so that it is the same run each time.
@@ -273,7 +267,7 @@ pub fn run_in_serial_order<A: Allocator + Copy>(
             gate: Some(gate),
         });
     }
-    match whole_of_gate(alloc, program, gate, limit) {
+    match take_run(alloc, program, gate, limit) {
         Ok(whole) => Ok(whole),
         Err(fault) => Err(UnfinishedRun { fault, gate: None }),
     }

@@ -1,7 +1,7 @@
 use Rattle.std.proofs.Common.{rules, ap, Err}
-use Rattle.locked_replay.proofs.Reversed.{told_strange}
+use Rattle.locked_replay.proofs.Reversed.{clean_either, told_strange}
 use Rattle.run_replay.specs.declared.replays.ReplayFault.{ReplayFault}
-use Rattle.locked_replay.proofs.whole.parts_of.Goals as goal
+use Rattle.locked_replay.proofs.whole.whole_of_gate.Goals as goal
 
 pub returns-clause-strange : goal.returns-clause-strange
 returns-clause-strange g c =
@@ -9,3 +9,6 @@ returns-clause-strange g c =
     (λ same. c.in-Err.ensures.unfinished (ap (λ (f : ReplayFault). Err f) same))
     (λ number same. c.in-Err.ensures.strange number (ap (λ (f : ReplayFault). Err f) same))
     (search rules)
+
+pub returns-in-Ok-clause-clean : goal.returns-in-Ok-clause-clean
+returns-in-Ok-clause-clean g c = clean_either c.into_parts-entries.result.0.items c.is_clean-clean.result c.is_clean-clean.ensures
