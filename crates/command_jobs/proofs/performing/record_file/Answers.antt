@@ -1,4 +1,4 @@
-use Rattle.std.proofs.Common.{rules, ◌≡◌, ℕ, List, Option, None, sym, subst}
+use Rattle.std.proofs.Common.{rules, ◌≡◌, ℕ, List, Option, None, refl, sym, subst}
 use Rattle.std.proofs.lemmas.Result.{IfErr-weaker}
 use Rattle.command_streams.specs.declared.fault.CliFault.{CliFault}
 use Rattle.command_streams.specs.declared.fault.CliFault.TheVariants.{Read}
@@ -15,42 +15,42 @@ unread source wrote writes limit fault is =
 
 pub returns-in-Err-clause-job : goal.returns-in-Err-clause-job
 returns-in-Err-clause-job g c = record {
-  done = search rules;
+  done = tt;
   fault = unread _ _ _ c.args.limit c.in-Err.fault c.in-Err.ensures.fault;
-  lacking = search rules;
+  lacking = λ lacks. rw c.in-Err.ensures.fault refl;
 }
 
 pub returns-in-Err-told-clause-job : goal.returns-in-Err-told-clause-job
 returns-in-Err-told-clause-job g c = record {
-  done = search rules;
-  fault = not_run _ _ _ _ _ c.args.limit c.in-Err-told.fault c.in-Err-told.ensures.fault (search rules);
-  lacking = search rules;
+  done = tt;
+  fault = not_run _ _ _ _ _ c.args.limit c.in-Err-told.fault c.in-Err-told.ensures.fault (rw (sym c.as_str.ensures.value) c.in-Ok.ensures.bytes);
+  lacking = λ lacks. absurd (let opened = c.in-Ok.ensures.lacking (rw c.as_str.ensures.value lacks) in cc);
 }
 
 pub returns-in-Err-create-clause-job : goal.returns-in-Err-create-clause-job
 returns-in-Err-create-clause-job g c = record {
-  done = search rules;
-  fault = not_created _ _ _ c.args.limit _ _ _ c.in-Ok-told.ensures.ok (search rules) _ _ c.in-Err-create.fault c.in-Err-create.ensures.fault;
-  lacking = search rules;
+  done = tt;
+  fault = not_created _ _ _ c.args.limit _ _ _ c.in-Ok-told.ensures.ok (rw (sym c.as_str.ensures.value) c.in-Ok.ensures.bytes) _ _ c.in-Err-create.fault c.in-Err-create.ensures.fault;
+  lacking = λ lacks. absurd (let opened = c.in-Ok.ensures.lacking (rw c.as_str.ensures.value lacks) in cc);
 }
 
 pub returns-clause-job : goal.returns-clause-job
 returns-clause-job g c = record {
-  done = recorded_ran _ _ _ c.args.limit _ _ _ c.in-Ok-told.ensures.ok (search rules) _ _ _ _ c.write_traced_run-answer.result
+  done = recorded_ran _ _ _ c.args.limit _ _ _ c.in-Ok-told.ensures.ok (rw (sym c.as_str.ensures.value) c.in-Ok.ensures.bytes) _ _ _ _ c.write_traced_run-answer.result
       c.write_traced_run-answer.ensures.status c.write_traced_run-answer.ensures.kept c.write_traced_run-answer.ensures.written;
   fault = IfErr-weaker c.write_traced_run-answer.result _ _
-      (λ fault stops. not_written _ _ _ c.args.limit _ _ _ c.in-Ok-told.ensures.ok (search rules) _ _ _ _ fault stops) c.write_traced_run-answer.ensures.fault;
-  lacking = search rules;
+      (λ fault stops. not_written _ _ _ c.args.limit _ _ _ c.in-Ok-told.ensures.ok (rw (sym c.as_str.ensures.value) c.in-Ok.ensures.bytes) _ _ _ _ fault stops) c.write_traced_run-answer.ensures.fault;
+  lacking = λ lacks. absurd (let opened = c.in-Ok.ensures.lacking (rw c.as_str.ensures.value lacks) in cc);
 }
 
 pub returns-clause-recorded : goal.returns-clause-recorded
 returns-clause-recorded g c =
-    recorded_kept _ _ _ c.args.limit _ _ _ c.in-Ok-told.ensures.ok (search rules) _ _ _ _ _ _ c.write_traced_run-answer.result
+    recorded_kept _ _ _ c.args.limit _ _ _ c.in-Ok-told.ensures.ok (rw (sym c.as_str.ensures.value) c.in-Ok.ensures.bytes) _ _ _ _ _ _ c.write_traced_run-answer.result
     c.write_traced_run-answer.ensures.status c.write_traced_run-answer.ensures.kept c.write_traced_run-answer.ensures.written (search rules) (search rules)
 
 pub returns-clause-recorded_first : goal.returns-clause-recorded_first
 returns-clause-recorded_first g c =
-    recorded_first _ _ _ c.args.limit _ _ _ c.in-Ok-told.ensures.ok (search rules) _ _ _ _ _ _ c.write_traced_run-answer.result
+    recorded_first _ _ _ c.args.limit _ _ _ c.in-Ok-told.ensures.ok (rw (sym c.as_str.ensures.value) c.in-Ok.ensures.bytes) _ _ _ _ _ _ c.write_traced_run-answer.result
     c.write_traced_run-answer.ensures.fault (search rules) (search rules)
 
 pub returns-in-Err-clause-recorded_first : goal.returns-in-Err-clause-recorded_first
@@ -61,3 +61,12 @@ returns-in-Err-told-clause-recorded_first g c = λ write. absurd (run_not_writte
 
 pub returns-in-Err-create-clause-recorded_first : goal.returns-in-Err-create-clause-recorded_first
 returns-in-Err-create-clause-recorded_first g c = λ write. absurd (let is = c.in-Err-create.ensures.fault in cc)
+
+pub returns-in-Err-clause-barred : goal.returns-in-Err-clause-barred
+returns-in-Err-clause-barred g c = λ bars. refl
+
+pub returns-in-Err-told-clause-barred : goal.returns-in-Err-told-clause-barred
+returns-in-Err-told-clause-barred g c = λ bars. refl
+
+pub returns-in-Err-create-clause-barred : goal.returns-in-Err-create-clause-barred
+returns-in-Err-create-clause-barred g c = λ bars. refl
