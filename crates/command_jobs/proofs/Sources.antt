@@ -9,9 +9,12 @@ use Rattle.command_streams.specs.Sources.{Sources}
 use Rattle.command_streams.specs.declared.fault.CliFault.{CliFault}
 use Rattle.command_streams.specs.declared.fault.CliFault.TheVariants.{Read}
 use Rattle.command_words.specs.Asked.{input_word}
+use Rattle.command_words.specs.declared.words.Color.{Color}
+use Rattle.command_words.specs.declared.words.Format.{Format}
 use Rattle.command_words.specs.declared.words.Job.{Job}
+use Rattle.tool_commands.specs.Explanations.{Manner}
 use Rattle.command_words.specs.declared.words.Job.TheVariants.{Judge, Elide, Run, Trace, Record, Explain, ExplainInput, ExplainTraces, Replay, Draw, Show}
-use Rattle.command_jobs.specs.Performed.{input_name, named, judged, lacks_named, LacksFile, HasJobCause}
+use Rattle.command_jobs.specs.Performed.{input_name, IsMannerOf, named, judged, lacks_named, LacksFile, HasJobCause}
 use Rattle.command_jobs.specs.OneSource.{source, lacks_source, named_file, file_of, IsOfOne}
 use Rattle.command_jobs.proofs.Explaining.{manner_of}
 
@@ -74,3 +77,20 @@ pub stopped_of : (Stops : (before behind : Option (List ℕ)) → CliFault → T
 stopped_of Stops gave reads behind answer is =
     IfErr-weaker answer (Stops gave behind) (λ fault. (left : Option (List ℕ)) × Stops reads left fault)
     (λ fault stops. (behind, subst (λ (before : Option (List ℕ)). Stops before behind fault) is stops))
+
+-- and so of an explanation in some manner
+pub told_of : (file : List ℕ) (color : Color) (format : Format) (is_all : Bool) (manner : Manner) → IsMannerOf file color format is_all manner →
+    (Told : (before behind : Option (List ℕ)) → Manner → ℕ → Type 0) (gave reads behind : Option (List ℕ)) (answer : Result ℕ CliFault) → gave ≡ reads →
+    IfOk answer (Told gave behind manner) →
+    IfOk answer (λ status. (left : Option (List ℕ)) × (manner : Manner) × IsMannerOf file color format is_all manner × Told reads left manner status)
+told_of file color format is_all manner so Told gave reads behind answer is =
+    IfOk-weaker answer (Told gave behind manner) (λ status. (left : Option (List ℕ)) × (manner : Manner) × IsMannerOf file color format is_all manner × Told reads left manner status)
+    (λ status told. (behind, manner, so, subst (λ (before : Option (List ℕ)). Told before behind manner status) is told))
+
+pub untold_of : (file : List ℕ) (color : Color) (format : Format) (is_all : Bool) (manner : Manner) → IsMannerOf file color format is_all manner →
+    (Stops : (before behind : Option (List ℕ)) → Manner → CliFault → Type 0) (gave reads behind : Option (List ℕ)) (answer : Result ℕ CliFault) → gave ≡ reads →
+    IfErr answer (Stops gave behind manner) →
+    IfErr answer (λ fault. (left : Option (List ℕ)) × (manner : Manner) × IsMannerOf file color format is_all manner × Stops reads left manner fault)
+untold_of file color format is_all manner so Stops gave reads behind answer is =
+    IfErr-weaker answer (Stops gave behind manner) (λ fault. (left : Option (List ℕ)) × (manner : Manner) × IsMannerOf file color format is_all manner × Stops reads left manner fault)
+    (λ fault stops. (behind, manner, so, subst (λ (before : Option (List ℕ)). Stops before behind manner fault) is stops))

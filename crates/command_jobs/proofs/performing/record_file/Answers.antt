@@ -1,10 +1,11 @@
-use Rattle.std.proofs.Common.{rules, ◌≡◌, ℕ, List, Option, None, refl, sym, subst}
+use Rattle.std.proofs.Common.{rules, ◌≡◌, ◌∙◌, ℕ, List, Option, None, refl, ap, sym, subst}
 use Rattle.std.proofs.lemmas.Result.{IfErr-weaker}
 use Rattle.command_streams.specs.declared.fault.CliFault.{CliFault}
 use Rattle.command_streams.specs.declared.fault.CliFault.TheVariants.{Read}
 use Rattle.command_streams.specs.Readings.{reading}
 use Rattle.tool_commands.specs.Traced.{Writing, writing, HasTracedCause}
 use Rattle.tool_commands.proofs.TracedCauses.{run_not_written, not_run, not_created, not_written, recorded_ran, recorded_kept, recorded_first}
+use Rattle.command_jobs.proofs.Hosts.{not_opened}
 use Rattle.command_jobs.proofs.performing.record_file.Goals as goal
 
 -- a program that could not be opened is not run
@@ -46,12 +47,12 @@ returns-clause-job g c = record {
 pub returns-clause-recorded : goal.returns-clause-recorded
 returns-clause-recorded g c =
     recorded_kept _ _ _ c.args.limit _ _ _ c.in-Ok-told.ensures.ok (rw (sym c.as_str.ensures.value) c.in-Ok.ensures.bytes) _ _ _ _ _ _ c.write_traced_run-answer.result
-    c.write_traced_run-answer.ensures.status c.write_traced_run-answer.ensures.kept c.write_traced_run-answer.ensures.written (search rules) (search rules)
+    c.write_traced_run-answer.ensures.status c.write_traced_run-answer.ensures.kept c.write_traced_run-answer.ensures.written (c.in-Ok-create.ensures.blank ∙ ap (λ held_host. g.H.Host.blank held_host) (c.note.ensures.same ∙ c.open.ensures.same)) (rw (sym c.as_str-3.ensures.value) c.close.ensures.made)
 
 pub returns-clause-recorded_first : goal.returns-clause-recorded_first
 returns-clause-recorded_first g c =
     recorded_first _ _ _ c.args.limit _ _ _ c.in-Ok-told.ensures.ok (rw (sym c.as_str.ensures.value) c.in-Ok.ensures.bytes) _ _ _ _ _ _ c.write_traced_run-answer.result
-    c.write_traced_run-answer.ensures.fault (search rules) (search rules)
+    c.write_traced_run-answer.ensures.fault (c.in-Ok-create.ensures.blank ∙ ap (λ held_host. g.H.Host.blank held_host) (c.note.ensures.same ∙ c.open.ensures.same)) (rw (sym c.as_str-3.ensures.value) c.close.ensures.made)
 
 pub returns-in-Err-clause-recorded_first : goal.returns-in-Err-clause-recorded_first
 returns-in-Err-clause-recorded_first g c = λ write. absurd (let is = c.in-Err.ensures.fault in cc)
@@ -70,3 +71,11 @@ returns-in-Err-told-clause-barred g c = λ bars. refl
 
 pub returns-in-Err-create-clause-barred : goal.returns-in-Err-create-clause-barred
 returns-in-Err-create-clause-barred g c = λ bars. refl
+
+pub returns-clause-barred : goal.returns-clause-barred
+returns-clause-barred g c = λ bars.
+    absurd (let created = c.in-Ok-create.ensures.barred (rw (c.note.ensures.same ∙ c.open.ensures.same, c.as_str-2.ensures.value) bars) in cc)
+
+pub returns-in-Err-clause-devices : goal.returns-in-Err-clause-devices
+returns-in-Err-clause-devices g c =
+    not_opened c.in-Err.fault _ _ c.in-Err.ensures.fault (search rules) c.requires.writer
