@@ -1,3 +1,4 @@
 mod Explaining
 mod Hosts
 mod Replaying
+mod Sources

@@ -1,1 +1,2 @@
+pub mod OneSource
 pub mod Performed

@@ -1,20 +1,22 @@
 //! From a job to the exit status of the process.
 
-ghost use Rattle.std.specs.Prelude.{◌≡◌, ◌↔◌, ◌<◌, ◌≤◌, Some, None, true, false, IfOk, IfErr, OnOk, IsErr, IsErrOf, IsTrue, Option, List, ℕ};
+ghost use Rattle.std.specs.Prelude.{◌≡◌, ◌↔◌, ◌<◌, ◌≤◌, true, false, IfOk, IfErr, OnOk, IsErr, IsErrOf, IsTrue, Option, List, ℕ};
 ghost use Rattle.model_histories.specs.Shapes.{most_entries};
 ghost use Rattle.std.specs.String.{string_bytes};
 ghost use Rattle.std.specs.Io.KnownBytes.{Appends};
 ghost use Rattle.command_words.specs.Jobs.{IsInRange};
+ghost use Rattle.command_streams.specs.Sources.{Sources};
 ghost use Rattle.command_streams.specs.Streams.{StopsWriting};
 ghost use Rattle.command_streams.specs.Devices.{LeavesDevices};
 ghost use Rattle.command_streams.specs.Watched.{held, has_failed, is_delivered};
-ghost use Rattle.command_jobs.specs.Performed.{form_of, rendering_of, extent_of, EndsJob, IsPaintedBy, IsRecorded};
+ghost use Rattle.command_jobs.specs.Performed.{form_of, rendering_of, extent_of, EndsJob, IsPerformed, HasJobCause, IsMannerOf, IsPaintedBy};
+ghost use Rattle.command_jobs.specs.Performed.{IsRecorded, IsRecordedFirst, BarsTrace, IsAlone, status_of_answer};
+ghost use Rattle.command_jobs.specs.OneSource.{source, file_of, IsOfOne};
 ghost use Rattle.command_streams.specs.Readings.{reading};
 ghost use Rattle.tool_commands.specs.Replays.{IsReplayed, HasReplayCause};
 ghost use Rattle.tool_commands.specs.Traced.{writing};
-ghost use Rattle.command_jobs.specs.Performed.{IsRecordedFirst, BarsTrace, IsAlone, status_of_answer};
 
-use crate::named::open_named;
+use crate::named::{file_of, named_file, open_source};
 use command_streams::{CliFault, Host, Watched, write_text};
 use command_words::{Color, Format, INPUT, Job, Language};
 use dag_drawing::Form;
@@ -23,7 +25,7 @@ use program_runs::OpenDoor;
 use race_explanations::Extent;
 use race_records::RecordForm;
 use std::alloc::Global;
-use std::io::Write;
+use std::io::{Read, Write};
 use std::sync::Wait;
 use std::thread::Threads;
 use tool_commands::{
@@ -34,130 +36,63 @@ use tool_commands::{
 /// What standard input is called where a file's name would stand.
 const INPUT_NAME: &str = "<stdin>";
 
-/// Judges the trace on standard input.
-fn judge_input<H: Host, W: Write>(
-    alloc: Global,
-    host: &mut Watched<H>,
-    limit: u32,
-    output: &mut Watched<W>,
-) -> Result<u8, CliFault>
-    requires host { has_failed host.old ≡ false }
-    requires writer { has_failed output.old ≡ false }
-    requires limit { limit ≤ most_entries }
-    ensures job { EndsJob (H.sources (held host.old)) (H.lacks (held host.old)) (Job.Judge None limit)
-        (W.contents (held output.old)) (W.contents (held output.new)) result }
-    ensures devices { LeavesDevices result (has_failed host.new) output.old output.new }
+/// The language of a drawing, as the words of the command line name it.
+fn form_of(language: Language) -> Form
+    ensures { result ≡ form_of language }
 {
-    let mut input = host.input();
-    let answer = judge_stream(alloc, &mut input, output, limit);
-    host.note(&input);
-    answer
+    match language {
+        Language::Dot => Form::Dot,
+        Language::Svg => Form::Svg,
+    }
 }
 
-/// Judges the trace in a file.
-fn judge_file<H: Host, W: Write>(
+/// Judges, elides or draws what a reader gives.
+fn answer_read<R: Read, W: Write>(
     alloc: Global,
-    host: &mut Watched<H>,
-    file: &String,
-    limit: u32,
+    job: &Job,
+    reader: &mut Watched<R>,
     output: &mut Watched<W>,
 ) -> Result<u8, CliFault>
-    requires host { has_failed host.old ≡ false }
+    requires reader { has_failed reader.old ≡ false }
     requires writer { has_failed output.old ≡ false }
-    requires limit { limit ≤ most_entries }
-    ensures job { EndsJob (H.sources (held host.old)) (H.lacks (held host.old)) (Job.Judge (Some file.now) limit)
-        (W.contents (held output.old)) (W.contents (held output.new)) result }
-    ensures devices { LeavesDevices result (has_failed host.new) output.old output.new }
+    requires ranges { IsInRange job.now }
+    requires one { IsOfOne job.now }
+    requires alone { IsAlone job.now }
+    ensures done { (sources : Sources) → R.remaining (held reader.old) ≡ source sources (file_of job.now) →
+        IfOk result (IsPerformed sources job.now (W.contents (held output.old)) (W.contents (held output.new))) }
+    ensures fault { (sources : Sources) → R.remaining (held reader.old) ≡ source sources (file_of job.now) →
+        IfErr result (HasJobCause sources job.now (W.contents (held output.old)) (W.contents (held output.new))) }
+    ensures status { IfOk result (λ status. status ≤ 4) }
+    ensures devices { LeavesDevices result (has_failed reader.new) output.old output.new }
 {
-    let mut trace = open_named(host, file.as_str())?;
-    let answer = judge_stream(alloc, &mut trace, output, limit);
-    host.note(&trace);
-    answer
+    match job {
+        Job::Judge { limit, .. } => judge_stream(alloc, reader, output, *limit),
+        Job::Elide { limit, .. } => elide_text(alloc, reader, output, *limit),
+        Job::Draw { language, .. } => draw_text(alloc, form_of(*language), reader, output),
+        _ => unreachable!(),
+    }
 }
 
-/// Writes the elision of the program in a file.
-fn elide_file<H: Host, W: Write>(
+/// Judges, elides or draws what a job names.
+fn read_source<H: Host, W: Write>(
     alloc: Global,
     host: &mut Watched<H>,
-    file: &String,
-    limit: u32,
+    job: &Job,
     output: &mut Watched<W>,
 ) -> Result<u8, CliFault>
     requires host { has_failed host.old ≡ false }
     requires writer { has_failed output.old ≡ false }
-    requires limit { limit ≤ most_entries }
-    ensures job { EndsJob (H.sources (held host.old)) (H.lacks (held host.old)) (Job.Elide file.now limit)
+    requires ranges { IsInRange job.now }
+    requires one { IsOfOne job.now }
+    requires alone { IsAlone job.now }
+    ensures job { EndsJob (H.sources (held host.old)) (H.lacks (held host.old)) job.now
         (W.contents (held output.old)) (W.contents (held output.new)) result }
+    ensures status { IfOk result (λ status. status ≤ 4) }
     ensures devices { LeavesDevices result (has_failed host.new) output.old output.new }
 {
-    let mut program = open_named(host, file.as_str())?;
-    let answer = elide_text(alloc, &mut program, output, limit);
-    host.note(&program);
-    answer
-}
-
-/// Runs the program in a file by so many workers, and writes the report.
-fn run_file<H: Host, W: Write, R: Threads + Wait + Sync>(
-    threads: &R,
-    alloc: Global,
-    host: &mut Watched<H>,
-    file: &String,
-    workers: usize,
-    limit: u32,
-    output: &mut Watched<W>,
-) -> Result<u8, CliFault>
-    requires host { has_failed host.old ≡ false }
-    requires writer { has_failed output.old ≡ false }
-    requires workers { (0 < workers) × (workers ≤ 64) }
-    requires limit { limit ≤ most_entries }
-    ensures job { EndsJob (H.sources (held host.old)) (H.lacks (held host.old)) (Job.Run file.now workers limit)
-        (W.contents (held output.old)) (W.contents (held output.new)) result }
-    ensures devices { LeavesDevices result (has_failed host.new) output.old output.new }
-{
-    let mut program = open_named(host, file.as_str())?;
-    let answer = run_text(
-        threads,
-        alloc,
-        alloc,
-        &mut program,
-        workers,
-        &OpenDoor,
-        output,
-        limit,
-    );
-    host.note(&program);
-    answer
-}
-
-/// Runs the program in a file by so many workers, and writes the trace of the run in place of its report.
-fn trace_file<H: Host, W: Write, R: Threads + Wait + Sync>(
-    threads: &R,
-    alloc: Global,
-    host: &mut Watched<H>,
-    file: &String,
-    workers: usize,
-    limit: u32,
-    output: &mut Watched<W>,
-) -> Result<u8, CliFault>
-    requires host { has_failed host.old ≡ false }
-    requires writer { has_failed output.old ≡ false }
-    requires workers { (0 < workers) × (workers ≤ 64) }
-    requires limit { limit ≤ most_entries }
-    ensures job { EndsJob (H.sources (held host.old)) (H.lacks (held host.old)) (Job.Trace file.now workers limit)
-        (W.contents (held output.old)) (W.contents (held output.new)) result }
-    ensures devices { LeavesDevices result (has_failed host.new) output.old output.new }
-{
-    let mut program = open_named(host, file.as_str())?;
-    let answer = write_run_trace(
-        threads,
-        alloc,
-        &mut program,
-        workers,
-        &OpenDoor,
-        output,
-        limit,
-    );
-    host.note(&program);
+    let mut reader = open_source(host, file_of(job))?;
+    let answer = answer_read(alloc, job, &mut reader, output);
+    host.note(&reader);
     answer
 }
 
@@ -172,12 +107,12 @@ fn rendering_of(format: Format) -> Rendering
     }
 }
 
-/// Whether words are painted.
-fn is_painted<H: Host>(host: &Watched<H>, color: Color) -> bool
+/// Whether words are painted, which a terminal may show or not.
+fn is_painted(color: Color, is_terminal: bool) -> bool
     ensures { IsPaintedBy color result }
 {
     match color {
-        Color::Auto => host.is_terminal(),
+        Color::Auto => is_terminal,
         Color::Always => true,
         Color::Never => false,
     }
@@ -190,82 +125,110 @@ fn extent_of(is_all: bool) -> Extent
     if is_all { Extent::All } else { Extent::First }
 }
 
-/// Runs the program in a file by so many workers, and explains the run.
-fn explain_file<H: Host, W: Write, R: Threads + Wait + Sync>(
-    threads: &R,
-    alloc: Global,
-    host: &mut Watched<H>,
-    file: &String,
-    workers: usize,
-    is_serial: bool,
-    limit: u32,
+/// How a run is explained of the program with this name.
+fn manner_of(
+    file: &str,
     color: Color,
     format: Format,
     is_all: bool,
-    output: &mut Watched<W>,
-) -> Result<u8, CliFault>
-    requires host { has_failed host.old ≡ false }
-    requires writer { has_failed output.old ≡ false }
-    requires workers { (0 < workers) × (workers ≤ 64) }
-    requires limit { limit ≤ most_entries }
-    ensures job { EndsJob (H.sources (held host.old)) (H.lacks (held host.old)) (Job.Explain file.now workers is_serial limit color format is_all)
-        (W.contents (held output.old)) (W.contents (held output.new)) result }
-    ensures devices { LeavesDevices result (has_failed host.new) output.old output.new }
+    is_terminal: bool,
+) -> Manner<'_>
+    ensures { IsMannerOf file.now color format is_all result }
 {
-    let mut program = host.open(file.as_str())?;
-    let manner = Manner {
-        is_painted: is_painted(host, color),
+    Manner {
+        is_painted: is_painted(color, is_terminal),
         rendering: rendering_of(format),
         extent: extent_of(is_all),
-        file: file.as_str(),
-    };
-    let answer = explain_text(
-        threads,
-        alloc,
-        &manner,
-        &mut program,
-        workers,
-        is_serial,
-        &OpenDoor,
-        output,
-        limit,
-    );
-    host.note(&program);
-    answer
+        file,
+    }
 }
 
-/// Explains what standard input gives, as [`explain_file`] does what a file holds.
-fn explain_input<H: Host, W: Write, R: Threads + Wait + Sync>(
+/// Runs the program that a reader gives, and reports, traces or explains the run.
+fn answer_run<P: Read, W: Write, R: Threads + Wait + Sync>(
+    threads: &R,
+    alloc: Global,
+    job: &Job,
+    program: &mut Watched<P>,
+    is_terminal: bool,
+    output: &mut Watched<W>,
+) -> Result<u8, CliFault>
+    requires reader { has_failed program.old ≡ false }
+    requires writer { has_failed output.old ≡ false }
+    requires ranges { IsInRange job.now }
+    requires one { IsOfOne job.now }
+    requires threads { IsAlone job.now → ⊥ }
+    ensures done { (sources : Sources) → P.remaining (held program.old) ≡ source sources (file_of job.now) →
+        IfOk result (IsPerformed sources job.now (W.contents (held output.old)) (W.contents (held output.new))) }
+    ensures fault { (sources : Sources) → P.remaining (held program.old) ≡ source sources (file_of job.now) →
+        IfErr result (HasJobCause sources job.now (W.contents (held output.old)) (W.contents (held output.new))) }
+    ensures status { IfOk result (λ status. status ≤ 4) }
+    ensures devices { LeavesDevices result (has_failed program.new) output.old output.new }
+{
+    match job {
+        Job::Run { workers, limit, .. } => run_text(
+            threads, alloc, alloc, program, *workers, &OpenDoor, output, *limit,
+        ),
+        Job::Trace { workers, limit, .. } => {
+            write_run_trace(threads, alloc, program, *workers, &OpenDoor, output, *limit)
+        }
+        Job::Explain {
+            file,
+            workers,
+            is_serial,
+            limit,
+            color,
+            format,
+            is_all,
+        } => {
+            let manner = manner_of(file.as_str(), *color, *format, *is_all, is_terminal);
+            explain_text(
+                threads, alloc, &manner, program, *workers, *is_serial, &OpenDoor, output, *limit,
+            )
+        }
+        Job::ExplainInput {
+            workers,
+            is_serial,
+            limit,
+            color,
+            format,
+            is_all,
+        } => {
+            let manner = manner_of(INPUT_NAME, *color, *format, *is_all, is_terminal);
+            explain_text(
+                threads, alloc, &manner, program, *workers, *is_serial, &OpenDoor, output, *limit,
+            )
+        }
+        _ => unreachable!(),
+    }
+}
+
+/// Whether what a job explains is seen on a terminal.
+fn is_seen<H: Host>(host: &Watched<H>, job: &Job) -> bool {
+    matches!(job, Job::Explain { .. } | Job::ExplainInput { .. }) && host.is_terminal()
+}
+
+/// Runs the program that a job names, and reports, traces or explains the run.
+fn run_source<H: Host, W: Write, R: Threads + Wait + Sync>(
     threads: &R,
     alloc: Global,
     host: &mut Watched<H>,
-    workers: usize,
-    is_serial: bool,
-    limit: u32,
-    color: Color,
-    format: Format,
-    is_all: bool,
+    job: &Job,
     output: &mut Watched<W>,
 ) -> Result<u8, CliFault>
     requires host { has_failed host.old ≡ false }
     requires writer { has_failed output.old ≡ false }
-    requires workers { (0 < workers) × (workers ≤ 64) }
-    requires limit { limit ≤ most_entries }
-    ensures job { EndsJob (H.sources (held host.old)) (H.lacks (held host.old)) (Job.ExplainInput workers is_serial limit color format is_all)
+    requires ranges { IsInRange job.now }
+    requires one { IsOfOne job.now }
+    requires threads { IsAlone job.now → ⊥ }
+    ensures job { EndsJob (H.sources (held host.old)) (H.lacks (held host.old)) job.now
         (W.contents (held output.old)) (W.contents (held output.new)) result }
+    ensures status { IfOk result (λ status. status ≤ 4) }
     ensures devices { LeavesDevices result (has_failed host.new) output.old output.new }
 {
-    let manner = Manner {
-        is_painted: is_painted(host, color),
-        rendering: rendering_of(format),
-        extent: extent_of(is_all),
-        file: INPUT_NAME,
-    };
-    let mut input = host.input();
-    let answer = explain_text(
-        threads, alloc, &manner, &mut input, workers, is_serial, &OpenDoor, output, limit,
-    );
-    host.note(&input);
+    let mut program = open_source(host, file_of(job))?;
+    let is_terminal = is_seen(host, job);
+    let answer = answer_run(threads, alloc, job, &mut program, is_terminal, output);
+    host.note(&program);
     answer
 }
 
@@ -286,7 +249,7 @@ fn explain_traces<H: Host, W: Write>(
     ensures status { IfOk result (λ status. status ≤ 4) }
     ensures devices { LeavesDevices result (has_failed host.new) output.old output.new }
 {
-    let is_painted = is_painted(host, color);
+    let is_painted = is_painted(color, host.is_terminal());
     explain_files(
         alloc,
         host,
@@ -389,40 +352,10 @@ fn replay_files<H: Host, W: Write>(
         return replay_input(alloc, host, trace, output);
     }
     let mut program = host.open(file.as_str())?;
-    let mut entries = open_named(host, trace.as_str())?;
+    let mut entries = open_source(host, named_file(trace.as_str()))?;
     let answer = replay_text(alloc, &mut program, &mut entries, output);
     host.note(&program);
     host.note(&entries);
-    answer
-}
-
-/// The language of a drawing, as the words of the command line name it.
-fn form_of(language: Language) -> Form
-    ensures { result ≡ form_of language }
-{
-    match language {
-        Language::Dot => Form::Dot,
-        Language::Svg => Form::Svg,
-    }
-}
-
-/// Draws the trace in a file.
-fn draw_file<H: Host, W: Write>(
-    alloc: Global,
-    host: &mut Watched<H>,
-    file: &String,
-    language: Language,
-    output: &mut Watched<W>,
-) -> Result<u8, CliFault>
-    requires host { has_failed host.old ≡ false }
-    requires writer { has_failed output.old ≡ false }
-    ensures job { EndsJob (H.sources (held host.old)) (H.lacks (held host.old)) (Job.Draw file.now language)
-        (W.contents (held output.old)) (W.contents (held output.new)) result }
-    ensures devices { LeavesDevices result (has_failed host.new) output.old output.new }
-{
-    let mut trace = open_named(host, file.as_str())?;
-    let answer = draw_text(alloc, form_of(language), &mut trace, output);
-    host.note(&trace);
     answer
 }
 
@@ -457,14 +390,10 @@ pub fn perform_alone<H: Host, W: Write>(
     ensures devices { LeavesDevices result (has_failed host.new) output.old output.new }
 {
     match job {
-        Job::Judge { file: None, limit } => judge_input(alloc, host, *limit, output),
-        Job::Judge {
-            file: Some(file),
-            limit,
-        } => judge_file(alloc, host, file, *limit, output),
-        Job::Elide { file, limit } => elide_file(alloc, host, file, *limit, output),
+        Job::Judge { .. } | Job::Elide { .. } | Job::Draw { .. } => {
+            read_source(alloc, host, job, output)
+        }
         Job::Replay { file, trace } => replay_files(alloc, host, file, trace, output),
-        Job::Draw { file, language } => draw_file(alloc, host, file, *language, output),
         Job::Show { text } => show(text, output),
         Job::ExplainTraces {
             files,
@@ -472,11 +401,7 @@ pub fn perform_alone<H: Host, W: Write>(
             format,
             is_all,
         } => explain_traces(alloc, host, files, *color, *format, *is_all, output),
-        Job::Run { .. }
-        | Job::Trace { .. }
-        | Job::Record { .. }
-        | Job::Explain { .. }
-        | Job::ExplainInput { .. } => unreachable!(),
+        _ => unreachable!(),
     }
 }
 
@@ -511,45 +436,16 @@ pub fn perform<H: Host, W: Write, R: Threads + Wait + Sync>(
     ensures barred { BarsTrace (H.bars (held host.old)) job.now → IsErr result }
 {
     match job {
-        Job::Run {
-            file,
-            workers,
-            limit,
-        } => run_file(threads, alloc, host, file, *workers, *limit, output),
-        Job::Trace {
-            file,
-            workers,
-            limit,
-        } => trace_file(threads, alloc, host, file, *workers, *limit, output),
+        Job::Run { .. } | Job::Trace { .. } | Job::Explain { .. } | Job::ExplainInput { .. } => {
+            run_source(threads, alloc, host, job, output)
+        }
         Job::Record {
             file,
             workers,
             limit,
             trace,
         } => record_file(threads, alloc, host, file, *workers, *limit, trace, output),
-        Job::Explain {
-            file,
-            workers,
-            is_serial,
-            limit,
-            color,
-            format,
-            is_all,
-        } => explain_file(
-            threads, alloc, host, file, *workers, *is_serial, *limit, *color, *format, *is_all,
-            output,
-        ),
-        Job::ExplainInput {
-            workers,
-            is_serial,
-            limit,
-            color,
-            format,
-            is_all,
-        } => explain_input(
-            threads, alloc, host, *workers, *is_serial, *limit, *color, *format, *is_all, output,
-        ),
-        job => perform_alone(alloc, host, job, output),
+        _ => perform_alone(alloc, host, job, output),
     }
 }
 
