@@ -74,32 +74,6 @@ fn replay<P: Read>(
     answer
 }
 
-/// Tells on paper of the text that is read.
-fn explain<P: Read, R: Threads + Wait + Sync>(
-    rt: &R,
-    alloc: Global,
-    input: &mut Watched<P>,
-    is_json: bool,
-    output: &mut Watched<Filling>,
-) -> Result<u8, CliFault>
-    requires reader { has_failed input.old ≡ false }
-    requires writer { has_failed output.old ≡ false }
-{
-    let manner = Manner {
-        is_painted: false,
-        rendering: if is_json {
-            Rendering::Record(RecordForm::Json)
-        } else {
-            Rendering::Text
-        },
-        extent: Extent::First,
-        file: "p.cilk",
-    };
-    explain_text(
-        rt, alloc, &manner, input, 2, is_json, &OpenDoor, output, MOST,
-    )
-}
-
 /// What the command answers.
 fn answer_command<P: Read, R: Abort + Threads + Wait + Sync>(
     rt: &R,
@@ -119,10 +93,26 @@ fn answer_command<P: Read, R: Abort + Threads + Wait + Sync>(
             run_text(rt, alloc, alloc, input, workers, &OpenDoor, output, MOST)
         }
         Trace => write_run_trace(rt, alloc, input, 2, &OpenDoor, output, MOST),
-        Explain => explain(rt, alloc, input, false, output),
-        ExplainAsJson => explain(rt, alloc, input, true, output),
-        Replay(trace) => replay(rt, alloc, input, trace, false, output),
-        Follow(program) => replay(rt, alloc, input, program, true, output),
+        Explain | ExplainAsJson => {
+            let is_json = matches!(command, ExplainAsJson);
+            let manner = Manner {
+                is_painted: false,
+                rendering: if is_json {
+                    Rendering::Record(RecordForm::Json)
+                } else {
+                    Rendering::Text
+                },
+                extent: Extent::First,
+                file: "p.cilk",
+            };
+            explain_text(
+                rt, alloc, &manner, input, 2, is_json, &OpenDoor, output, MOST,
+            )
+        }
+        Replay(other) | Follow(other) => {
+            let is_trace = matches!(command, Follow(_));
+            replay(rt, alloc, input, other, is_trace, output)
+        }
         Draw => draw_text(alloc, Form::Dot, input, output),
     }
 }
@@ -265,6 +255,7 @@ fn has_filled(outcome: &Outcome, left: u32, calls: u32, text: &str) -> bool {
     matches!(outcome.answer, Err(CliFault::Write)) == is_cut
         && outcome.write_failed == is_cut
         && matches!(outcome.answer, Ok(0)) != is_cut
+        && !outcome.read_failed
         && outcome.output.held.as_slice() == front
 }
 

@@ -35,19 +35,12 @@ macro_rules! twice {
     };
 }
 
-/// Whether what a call makes is right. The call is made once more where it answered that there is no memory. This is for calls that make a
-/// large value, since `twice!` has variables for it, and each of them lengthens the proof.
-macro_rules! is_made {
-    ($told:ident, $call:literal, $memory:pat, $answer:expr, $made:pat => $is_right:expr) => {
-        match $answer {
-            Ok($made) => $is_right,
-            Err(fault) => {
-                crate::growths::note($told, $call, matches!(fault, $memory))
-                    && match $answer {
-                        Ok($made) => $is_right,
-                        Err(_) => false,
-                    }
-            }
+/// What calls that change nothing answer, made once more where there was no memory for one of them.
+macro_rules! again {
+    ($told:ident, $asked:expr) => {
+        match $asked {
+            Err(call) if crate::growths::note($told, call, true) => $asked,
+            asked => asked,
         }
     };
 }
@@ -63,7 +56,7 @@ mod traces;
 use crate::checks::equal;
 use crate::refusing::Refusing;
 use commands::Command;
-use std::alloc::{AllocError, Global};
+use std::alloc::Global;
 use std::process::Abort;
 use tool_commands::Form;
 
@@ -78,13 +71,8 @@ fn note(told: &mut Told, call: &'static str, is_refused: bool) -> bool {
     is_refused && told.push(call).is_ok()
 }
 
-/// Whether the text was made, and is this one.
-fn is_text(made: &Result<Vec<u8, &Heap>, AllocError>, wanted: &[u8]) -> bool {
-    match made {
-        Ok(text) => text.as_slice() == wanted,
-        Err(AllocError) => false,
-    }
-}
+/// Whether calls answered and left what they should, or the call for which there was no memory.
+type Asked = Result<bool, &'static str>;
 
 /// What is called one after another over a heap.
 enum Calls {
@@ -97,29 +85,38 @@ enum Calls {
     Trace,
     /// The requests to a gate, one by one.
     Requests,
-    /// The same in a list, and the verdict lines.
+    /// The same in a list.
     Replies,
+    Lines,
     Program,
-    Run,
+    Frames,
+    Replay,
     Command(Command),
 }
 
-/// Makes the calls, and notes those for which there was no memory. Whether each answered and left what it should.
-fn make_calls(alloc: Global, heap: &Heap, calls: &Calls, told: &mut Told) -> bool {
+/// Makes the calls, once each, and notes those that it makes once more.
+fn ask_calls(alloc: Global, heap: &Heap, calls: &Calls, told: &mut Told) -> Asked {
     match calls {
         Calls::List => lists::call_list(heap, told),
         Calls::Strands => strands::call_strands(heap, told),
         Calls::Branches => kept::call_branches(heap, told),
         Calls::Views => kept::call_views(heap, told),
-        Calls::Reads => kept::call_reads(alloc, heap, told),
-        Calls::Shadow => kept::call_shadow(alloc, heap, told),
+        Calls::Reads => kept::call_reads(alloc, heap),
+        Calls::Shadow => kept::call_shadow(alloc, heap),
         Calls::Trace => traces::call_trace(heap, told),
         Calls::Requests => gates::call_gate(alloc, heap, false, told),
         Calls::Replies => gates::call_gate(alloc, heap, true, told),
+        Calls::Lines => gates::write_lines(heap),
         Calls::Program => programs::call_program(heap, told),
-        Calls::Run => programs::call_run(alloc, heap, told),
-        Calls::Command(command) => commands::call_command(alloc, heap, command, told),
+        Calls::Frames => programs::call_frames(alloc, heap, told),
+        Calls::Replay => programs::replay_pair(alloc, heap),
+        Calls::Command(command) => Ok(commands::call_command(alloc, heap, command, told)),
     }
+}
+
+/// Makes the calls, and notes those for which there was no memory. Whether each answered and left what it should.
+fn make_calls(alloc: Global, heap: &Heap, calls: &Calls, told: &mut Told) -> bool {
+    matches!(again!(told, ask_calls(alloc, heap, calls, told)), Ok(true))
 }
 
 /// Where the growths of calls have no end.
@@ -219,12 +216,8 @@ fn growths_of_traces_and_gates(rt: HostRuntime) {
         &["Trace::parse", "Trace::print", "Trace::shape", "cell_name"],
     );
     check(&rt, alloc, &Calls::Requests, &["Gate::new", "Gate::judge"]);
-    check(
-        &rt,
-        alloc,
-        &Calls::Replies,
-        &["Gate::new", "judge_all", "verdict_lines"],
-    );
+    check(&rt, alloc, &Calls::Replies, &["Gate::new", "judge_all"]);
+    check(&rt, alloc, &Calls::Lines, &["verdict_lines"]);
 }
 
 #[test]
@@ -244,9 +237,10 @@ fn growths_of_programs_and_runs(rt: HostRuntime) {
     check(
         &rt,
         alloc,
-        &Calls::Run,
-        &["Frame::answer", "Frame::reserve_call", "replay"],
+        &Calls::Frames,
+        &["Frame::answer", "Frame::reserve_call"],
     );
+    check(&rt, alloc, &Calls::Replay, &["replay"]);
 }
 
 const COMMANDS: &[(Calls, &str)] = &[

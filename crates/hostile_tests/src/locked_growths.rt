@@ -5,7 +5,6 @@ ghost use Rattle.std.specs.Prelude.{◌≡◌};
 use crate::receipts::PAIR_REQUESTS;
 use crate::refusing::Refusing;
 use crate::rounds::gate_for;
-use crate::worked::PAIR;
 use locked_replay::{LockedGate, RunFault, Seat, Whole, WorkerLog, gather};
 use packed_history::Receipts;
 use program_text::Program;
@@ -63,20 +62,24 @@ fn ask_pair<L: Ledger, R: Wait>(
     Some(is_told)
 }
 
-/// The log of a worker who asks what PAIR asks. Its growth of this number is refused.
+/// The log of a worker who asks what PAIR asks, alone in a list. Its growth of this number is refused.
 fn ask_refused<'h, L: Ledger, R: Wait>(
     rt: &R,
     heap: &'h Heap,
     locked: &LockedGate<L, &'h Heap>,
     mut seat: Seat<L>,
     number: u64,
-) -> Option<(WorkerLog<L, &'h Heap>, Found)> {
+) -> Option<(Vec<WorkerLog<L, &'h Heap>, &'h Heap>, Found)> {
     let mut receipts = Receipts::new(heap);
     heap.refuse(number);
     let is_told = ask_pair(rt, locked, &mut seat, &mut receipts)?;
     let was_refused = heap.has_refused();
     heap.refuse(0);
-    Some((WorkerLog { seat, receipts }, (was_refused, is_told)))
+    let Ok(mut logs) = Vec::with_capacity(heap, 1) else {
+        return None;
+    };
+    logs.push_reserved(WorkerLog { seat, receipts });
+    Some((logs, (was_refused, is_told)))
 }
 
 /// Whether there was no memory to gather a run, which is clean or not, has so many entries and leaves this memory.
@@ -98,31 +101,12 @@ pub fn lacks_whole(
     }
 }
 
-/// What is found where PAIR's run is gathered of its log, in which the child writes 7 and the spawner's read is refused. Its growth of this
-/// number is refused.
-fn gather_refused<'h, L: Ledger>(
-    heap: &'h Heap,
-    program: &Program<&'h Heap>,
-    locked: LockedGate<L, &'h Heap>,
-    log: WorkerLog<L, &'h Heap>,
-    number: u64,
-) -> Option<Found> {
-    let Ok(mut logs) = Vec::with_capacity(heap, 1) else {
-        return None;
-    };
-    logs.push_reserved(log);
-    heap.refuse(number);
-    let gathered = gather(heap, program, locked, logs);
-    let is_told = lacks_whole(gathered, false, 7, &[7, 0]);
-    let was_refused = heap.has_refused();
-    heap.refuse(0);
-    Some((was_refused, is_told?))
-}
-
-/// PAIR's run is asked and gathered. The growth of one number is refused while it is asked, and that of the other while it is gathered.
+/// PAIR's run is asked and gathered, in which the child writes 7 and the spawner's read is refused. The growth of one number is refused
+/// while it is asked, and that of the other while it is gathered.
 fn gathers<L: Ledger, R: Wait>(
     rt: &R,
     heap: &Heap,
+    pair: &Program<Global>,
     asking: u64,
     gathering: u64,
     blank: Blank,
@@ -131,28 +115,34 @@ fn gathers<L: Ledger, R: Wait>(
     requires all { blank.parts ≡ L.parts }
     requires parts { blank.parts ≡ 1 }
 {
-    heap.refuse(0);
-    let Ok(program) = Program::parse(heap, PAIR) else {
-        return None;
-    };
-    let Ok(gate) = gate_for(heap, &program) else {
+    let Ok(gate) = gate_for(heap, pair) else {
         return None;
     };
     let (locked, seat) = LockedGate::<L, &Heap>::new(gate, blank, 1);
-    let (log, asked) = ask_refused(rt, heap, &locked, seat, asking)?;
-    let gathered = gather_refused(heap, &program, locked, log, gathering)?;
-    Some((asked, gathered))
+    let (logs, asked) = ask_refused(rt, heap, &locked, seat, asking)?;
+    heap.refuse(gathering);
+    let gathered = gather(heap, pair, locked, logs);
+    let was_refused = heap.has_refused();
+    heap.refuse(0);
+    let is_told = lacks_whole(gathered, false, 7, &[7, 0])?;
+    Some((asked, (was_refused, is_told)))
 }
 
 /// Does so, and once more with all memory. Of asking and gathering that of which no growth is refused has memory.
-pub fn found_of<R: Wait>(rt: &R, heap: &Heap, number: u64, is_gathering: bool) -> Option<Found> {
+pub fn found_of<R: Wait>(
+    rt: &R,
+    heap: &Heap,
+    pair: &Program<Global>,
+    number: u64,
+    is_gathering: bool,
+) -> Option<Found> {
     let (asking, gathering) = if is_gathering {
         (0, number)
     } else {
         (number, 0)
     };
-    let (asked, gathered) = gathers::<Brand, R>(rt, heap, asking, gathering, Blank::new(1))?;
-    let again = gathers::<Brand, R>(rt, heap, 0, 0, Blank::new(1))?;
+    let (asked, gathered) = gathers::<Brand, R>(rt, heap, pair, asking, gathering, Blank::new(1))?;
+    let again = gathers::<Brand, R>(rt, heap, pair, 0, 0, Blank::new(1))?;
     let (found, other) = if is_gathering {
         (gathered, asked)
     } else {

@@ -7,11 +7,11 @@ use crate::checks::equal;
 use crate::locked_growths::{Found, Heap, found_of, lacks_whole};
 use crate::refusing::Refusing;
 use crate::rounds::gate_for;
-use crate::worked::SMALL_FIB;
+use crate::worked::{PAIR, SMALL_FIB};
 use frame_steps::Frame;
 use locked_replay::{LockedGate, RunFault, Whole, gather};
 use program_text::Program;
-use std::alloc::{AllocError, Allocator, Global};
+use std::alloc::{Allocator, Global};
 use std::marker::Brand;
 use std::process::Abort;
 use std::sync::Wait;
@@ -49,6 +49,21 @@ enum Kind {
 /// The join for which a task waits.
 const JOIN: u32 = 5;
 
+/// The task of `main`.
+fn task_of<'h, 'p>(
+    heap: &'h Heap,
+    program: &'p Program<Global>,
+) -> Result<Task<'p, &'h Heap>, LotFault> {
+    match Box::new(heap, Frame::new(heap, program, program.main(), 0)) {
+        Ok(frame) => Ok(Task {
+            strand: 0,
+            program,
+            frame,
+        }),
+        Err(_) => Err(LotFault::Memory),
+    }
+}
+
 /// The task of `main`, or else the last child, comes for the join. The strand of the task that goes on behind it, where both came.
 fn come<'h, 'p, R: Wait>(
     rt: &R,
@@ -58,26 +73,11 @@ fn come<'h, 'p, R: Wait>(
     is_task: bool,
 ) -> Result<Option<u32>, LotFault> {
     let met = if is_task {
-        let frame = Frame::new(heap, program, program.main(), 0);
-        match Box::new(heap, frame) {
-            Ok(frame) => {
-                let task = Task {
-                    strand: 0,
-                    program,
-                    frame,
-                };
-                lot.park(rt, JOIN, task)
-            }
-            Err(_) => Err(LotFault::Memory),
-        }
+        lot.park(rt, JOIN, task_of(heap, program)?)?
     } else {
-        lot.wake(rt, JOIN)
+        lot.wake(rt, JOIN)?
     };
-    match met {
-        Ok(Some(task)) => Ok(Some(task.strand)),
-        Ok(None) => Ok(None),
-        Err(fault) => Err(fault),
-    }
+    Ok(met.map(|task| task.strand))
 }
 
 /// The task or the last child comes for a join, once more where there was no memory, and then the other one.
@@ -138,15 +138,19 @@ fn lacks_run<R: Threads + Wait + Sync>(
     lacks_whole(gathered, true, 65, &[5])
 }
 
-/// Whether there is no memory for a run in the serial order, which asks a gate of its own.
+/// Whether a run in the serial order, which asks a gate of its own, leaves that memory.
+fn is_serial(heap: &Heap, program: &Program<Global>) -> Result<bool, RunFault> {
+    let mut gate = gate_for(heap, program)?;
+    run_serially(heap, program, &mut gate)?;
+    Ok(gate.memory() == [5].as_slice())
+}
+
+/// Whether there is no memory for it.
 fn lacks_serially(heap: &Heap, program: &Program<Global>) -> Option<bool> {
-    match gate_for(heap, program) {
-        Ok(mut gate) => match run_serially(heap, program, &mut gate) {
-            Ok(()) => (gate.memory() == [5].as_slice()).then_some(false),
-            Err(RunFault::Memory) => Some(true),
-            Err(_) => None,
-        },
-        Err(AllocError) => Some(true),
+    match is_serial(heap, program) {
+        Ok(is_right) => is_right.then_some(false),
+        Err(RunFault::Memory) => Some(true),
+        Err(_) => None,
     }
 }
 
@@ -229,6 +233,7 @@ const ENDLESS: u64 = 10_000;
 fn tell_in_turn<R: Threads + Wait + Sync>(
     rt: &R,
     alloc: Global,
+    pair: &Program<Global>,
     program: &Program<Global>,
     call: &Call,
 ) -> Result<u64, u64> {
@@ -240,8 +245,8 @@ fn tell_in_turn<R: Threads + Wait + Sync>(
         let heap = Refusing::new(alloc);
         let number = growths.saturating_add(1);
         let found = match call {
-            Call::Ask => found_of(rt, &heap, number, false),
-            Call::Gather => found_of(rt, &heap, number, true),
+            Call::Ask => found_of(rt, &heap, pair, number, false),
+            Call::Gather => found_of(rt, &heap, pair, number, true),
             Call::Meet(is_task) => meet(rt, &heap, program, number, *is_task),
             Call::Run(kind) => run_twice(rt, alloc, &heap, program, number, kind, 1),
         };
@@ -268,9 +273,10 @@ const CALLS: &[(Call, u64)] = &[
 
 #[test]
 fn calls_whose_growths_are_refused(rt: HostRuntime) -> Result<(), Fail> {
+    let pair = Program::parse(rt.alloc(), PAIR)?;
     let program = Program::parse(rt.alloc(), SMALL_FIB)?;
     for (call, least) in CALLS {
-        let told = tell_in_turn(&rt, rt.alloc(), &program, call);
+        let told = tell_in_turn(&rt, rt.alloc(), &pair, &program, call);
         let is_right = matches!(told, Ok(count) if *least <= count);
         equal(&rt, &(call, told), &is_right, &true);
     }

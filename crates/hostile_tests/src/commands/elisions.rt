@@ -1,7 +1,7 @@
 //! An elision of many cells, to writers that take it or not.
 
 use super::Command::Elide;
-use super::Wanted::{Filled, Text};
+use super::Wanted::Filled;
 use super::{Takes, check};
 use std::alloc::{AllocError, Global};
 use std::test::Fail;
@@ -22,6 +22,7 @@ fn write_wide_memory(alloc: Global) -> Result<String, AllocError> {
 
 /// Writers that go along with fewer calls than the lines of WIDE take, or with enough.
 const WRITERS: &[Takes] = &[
+    Takes::All,
     Takes::CallsThenErrors(0),
     Takes::Calls(1),
     Takes::CallsThenErrors(65_000),
@@ -38,12 +39,9 @@ const WRITERS: &[Takes] = &[
 #[test]
 fn an_elision_of_many_cells_that_can_be_written_or_not(rt: HostRuntime) -> Result<(), Fail> {
     let lines = write_wide_memory(rt.alloc())?;
-    let program = WIDE.as_bytes();
-    let wanted = Text(0, lines.as_str());
-    check(&rt, rt.alloc(), Elide, program, wanted);
     for takes in WRITERS {
         let wanted = Filled(*takes, 208_906, lines.as_str());
-        check(&rt, rt.alloc(), Elide, program, wanted);
+        check(&rt, rt.alloc(), Elide, WIDE.as_bytes(), wanted);
     }
     Ok(())
 }

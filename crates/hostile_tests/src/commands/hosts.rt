@@ -123,20 +123,6 @@ const STOLEN_REPORT: &str =
 /// How often the run is tried in which the child is stolen.
 const TRIES: u32 = 20;
 
-/// Whether the report of one of some runs begins so.
-fn is_stolen_once<R: Threads + Wait + Sync>(rt: &R, alloc: Global, job: &Job) -> bool
-    requires { IsInRange job.now }
-{
-    for _ in 0..TRIES {
-        let outcome = perform_over(rt, alloc, STOLEN, job);
-        let written = outcome.output.held.as_slice();
-        if is_ended(&outcome, 1) && written.starts_with(STOLEN_REPORT.as_bytes()) {
-            return true;
-        }
-    }
-    false
-}
-
 /// Of two workers the second steals what the first has spawned.
 #[test]
 fn a_second_worker_steals(rt: HostRuntime) -> Result<(), Fail> {
@@ -145,6 +131,15 @@ fn a_second_worker_steals(rt: HostRuntime) -> Result<(), Fail> {
         workers: 2,
         limit: MOST,
     };
-    assert!(rt; is_stolen_once(&rt, rt.alloc(), &job));
+    let mut is_stolen = false;
+    for _ in 0..TRIES {
+        let outcome = perform_over(&rt, rt.alloc(), STOLEN, &job);
+        let written = outcome.output.held.as_slice();
+        is_stolen = is_ended(&outcome, 1) && written.starts_with(STOLEN_REPORT.as_bytes());
+        if is_stolen {
+            break;
+        }
+    }
+    assert!(rt; is_stolen);
     Ok(())
 }

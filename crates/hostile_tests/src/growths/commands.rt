@@ -84,14 +84,15 @@ fn tells(ended: &Ended, status: u8, text: &[u8]) -> bool {
 pub(super) fn call_command(alloc: Global, heap: &Heap, command: &Command, told: &mut Told) -> bool {
     let (name, status, text) = wanted_of(command);
     let ended = perform(alloc, heap, command);
+    let is_usual = tells(&ended, status, text);
     if !note(told, name, heap.has_refused()) {
-        return tells(&ended, status, text);
+        return is_usual;
     }
     let lacks_memory = matches!(ended.0, Err(CliFault::Memory)) && ended.1.is_empty();
     let is_borne = match command {
-        Command::Judge => tells(&ended, status, text) || tells(&ended, 3, STARVED),
+        Command::Judge => is_usual || tells(&ended, 3, STARVED),
         Command::Elide => false,
-        Command::Replay | Command::Draw(_) => tells(&ended, status, text),
+        Command::Replay | Command::Draw(_) => is_usual,
     };
     (lacks_memory || is_borne) && tells(&perform(alloc, heap, command), status, text)
 }

@@ -1,6 +1,6 @@
 //! Growths of gates, of lists of replies, and of verdict lines.
 
-use super::{Heap, Told, is_text, note};
+use super::{Asked, Heap, Told, note};
 use crate::refusing::Refusing;
 use model_accesses::{Kind, Rule};
 use race_gate::{Answer, Entry, Gate, GateFault, Receipt, Reply, judge_all};
@@ -54,22 +54,13 @@ fn entries() -> &'static [Entry] {
 }
 
 /// A new gate of one cell and one reducer.
-fn open_gate<'h>(
-    alloc: Global,
-    heap: &'h Heap,
-    told: &mut Told,
-) -> Result<Gate<&'h Heap>, AllocError> {
+fn open_gate<'h>(alloc: Global, heap: &'h Heap) -> Result<Gate<&'h Heap>, AllocError> {
     let monoids = Vec::from_slice(alloc, &[Monoid::Sum])?;
     let shape = Shape {
         cells: 1,
         monoids: Monoids::new(monoids),
     };
-    twice!(
-        told,
-        "Gate::new",
-        AllocError,
-        Gate::new(heap, &shape, 1_000)
-    )
+    Gate::new(heap, &shape, 1_000)
 }
 
 /// The gate has these entries, its cell holds this number, and it was not stopped.
@@ -155,27 +146,17 @@ fn replies_alike(gate: &mut Gate<&Heap>, replies: &[Reply]) -> Option<usize> {
     (replies.len() == REQUESTS.len()).then_some(left_out)
 }
 
-/// The gate has replied to all requests, or, where one of them found no memory, as the other gate, which is not asked it and keeps the same.
-fn replies_as(
-    gate: &Gate<&Heap>,
-    other: &mut Gate<&Heap>,
-    replies: &[Reply],
-    told: &mut Told,
-) -> bool {
-    let left_out = replies_alike(other, replies);
+/// The gate has replied to all requests, or, where one of them found no memory, as another gate, which is not asked it and keeps the same.
+fn are_replies(alloc: Global, gate: &Gate<&Heap>, replies: &[Reply], told: &mut Told) -> bool {
+    let spare = Refusing::new(alloc);
+    let Ok(mut other) = open_gate(alloc, &spare) else {
+        return false;
+    };
+    let left_out = replies_alike(&mut other, replies);
     let is_wanting = note(told, "judge_all", left_out == Some(1));
     gate.history() == other.history()
         && gate.memory() == other.memory()
         && (is_wanting || left_out == Some(0) && keeps(gate, entries(), 4))
-}
-
-/// So it has, where the other gate is a new one.
-fn are_replies(alloc: Global, gate: &Gate<&Heap>, replies: &[Reply], told: &mut Told) -> bool {
-    let spare = Refusing::new(alloc);
-    match open_gate(alloc, &spare, told) {
-        Ok(mut other) => replies_as(gate, &mut other, replies, told),
-        Err(AllocError) => false,
-    }
 }
 
 /// The gate replies to the list of requests, which it is asked once more where there was no room for the replies, and has no entry then.
@@ -193,26 +174,23 @@ fn replies_to_all(alloc: Global, heap: &Heap, gate: &mut Gate<&Heap>, told: &mut
     }
 }
 
-/// Asks a new gate the requests, one by one, or in a list, and writes verdict lines.
-pub(super) fn call_gate(alloc: Global, heap: &Heap, is_list: bool, told: &mut Told) -> bool {
-    match open_gate(alloc, heap, told) {
-        Ok(mut gate) => {
-            if is_list {
-                replies_to_all(alloc, heap, &mut gate, told)
-                    && is_text(
-                        &twice!(
-                            told,
-                            "verdict_lines",
-                            AllocError,
-                            verdict_lines(heap, REPLIES)
-                        ),
-                        LINES,
-                    )
-            } else {
-                asks_all(&mut gate, told)
-            }
-        }
-        Err(AllocError) => false,
+/// Asks a new gate the requests, one by one, or in a list.
+pub(super) fn call_gate(alloc: Global, heap: &Heap, is_list: bool, told: &mut Told) -> Asked {
+    let Ok(mut gate) = open_gate(alloc, heap) else {
+        return Err("Gate::new");
+    };
+    Ok(if is_list {
+        replies_to_all(alloc, heap, &mut gate, told)
+    } else {
+        asks_all(&mut gate, told)
+    })
+}
+
+/// Writes the verdict lines of replies.
+pub(super) fn write_lines(heap: &Heap) -> Asked {
+    match verdict_lines(heap, REPLIES) {
+        Ok(lines) => Ok(lines.as_slice() == LINES),
+        Err(AllocError) => Err("verdict_lines"),
     }
 }
 

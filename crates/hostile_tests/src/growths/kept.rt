@@ -6,7 +6,7 @@ ghost use Rattle.sp_labels.specs.Roster.{Follows};
 ghost use Rattle.shadow_history.specs.Shadow.{Remembers, Runs, StandsOn};
 ghost use Rattle.view_read_rule.specs.Reads.{StandsOn as PeersStandOn};
 
-use super::{Heap, Told};
+use super::{Asked, Heap, Told};
 use branch_names::Branches;
 use model_accesses::{Kind, Witness};
 use reducer_views::Views;
@@ -34,14 +34,11 @@ fn ask_branches(branches: &mut Branches<&Heap>, told: &mut Told) -> bool {
     was_new && reserved.is_ok() && names_one(branches, true)
 }
 
-pub(super) fn call_branches(heap: &Heap, told: &mut Told) -> bool {
-    is_made!(
-        told,
-        "Branches::new",
-        AllocError,
-        Branches::new(heap),
-        mut branches => ask_branches(&mut branches, told)
-    )
+pub(super) fn call_branches(heap: &Heap, told: &mut Told) -> Asked {
+    let Ok(mut branches) = Branches::new(heap) else {
+        return Err("Branches::new");
+    };
+    Ok(ask_branches(&mut branches, told))
 }
 
 /// Strand 0 alone is there and sees this number in the reducer, and there is room for an event or not.
@@ -86,15 +83,11 @@ fn ask_views(views: &mut Views<&Heap>, told: &mut Told) -> bool
     sees(views, 7, false)
 }
 
-pub(super) fn call_views(heap: &Heap, told: &mut Told) -> bool {
-    let monoids = &[Monoid::Sum];
-    is_made!(
-        told,
-        "Views::new",
-        AllocError,
-        Views::new(heap, monoids),
-        mut views => ask_views(&mut views, told)
-    )
+pub(super) fn call_views(heap: &Heap, told: &mut Told) -> Asked {
+    let Ok(mut views) = Views::new(heap, &[Monoid::Sum]) else {
+        return Err("Views::new");
+    };
+    Ok(ask_views(&mut views, told))
 }
 
 /// New strands, of which strand 0 has spawned.
@@ -163,45 +156,43 @@ fn keeps_new(strands: &Strands<Global>, shadow: &mut Shadow<&Heap>) -> bool
     keeps_three(strands, shadow)
 }
 
-pub(super) fn call_shadow(alloc: Global, heap: &Heap, told: &mut Told) -> bool {
-    let Some(strands) = spawn_first(alloc) else {
-        return false;
+pub(super) fn call_shadow(alloc: Global, heap: &Heap) -> Asked {
+    let Ok(mut shadow) = Shadow::new(heap, 3) else {
+        return Err("Shadow::new");
     };
-    is_made!(
-        told,
-        "Shadow::new",
-        AllocError,
-        Shadow::new(heap, 3),
-        mut shadow => keeps_new(&strands, &mut shadow)
-    )
+    match spawn_first(alloc) {
+        Some(strands) => Ok(keeps_new(&strands, &mut shadow)),
+        None => Ok(false),
+    }
 }
 
-/// The reads of a reducer are none.
-fn is_unread(branches: &Branches<Global>, peers: &ReadPeers<&Heap>, reducer: u32) -> bool
+/// The reads of three reducers are none.
+fn are_unread(branches: &Branches<Global>, peers: &ReadPeers<&Heap>) -> bool
     requires stands { PeersStandOn peers.now branches.now }
-    requires reducer { reducer < length peers.now }
+    requires three { length peers.now ≡ 3 }
 {
-    branches.is_named(0)
-        && matches!(
+    if !branches.is_named(0) {
+        return false;
+    }
+    let mut are_none = true;
+    for reducer in 0..3u32 {
+        are_none &= matches!(
             peers.judge(branches, reducer, Kind::Get, 0),
             ViewVerdict::Unset
-        )
-        && matches!(
+        ) && matches!(
             peers.judge(branches, reducer, Kind::Put, 0),
             ViewVerdict::Granted
-        )
+        );
+    }
+    are_none
 }
 
-pub(super) fn call_reads(alloc: Global, heap: &Heap, told: &mut Told) -> bool {
-    let Ok(branches) = Branches::new(alloc) else {
-        return false;
+pub(super) fn call_reads(alloc: Global, heap: &Heap) -> Asked {
+    let Ok(peers) = ReadPeers::new(heap, 3) else {
+        return Err("ReadPeers::new");
     };
-    match twice!(told, "ReadPeers::new", AllocError, ReadPeers::new(heap, 3)) {
-        Ok(peers) => {
-            is_unread(&branches, &peers, 0)
-                && is_unread(&branches, &peers, 1)
-                && is_unread(&branches, &peers, 2)
-        }
-        Err(AllocError) => false,
+    match Branches::new(alloc) {
+        Ok(branches) => Ok(are_unread(&branches, &peers)),
+        Err(AllocError) => Ok(false),
     }
 }

@@ -1,8 +1,7 @@
 //! Growths of order lists.
 
-use super::{Heap, Told, note};
+use super::{Asked, Heap, Told, note};
 use order_list::{OrderFault, OrderList};
-use std::alloc::AllocError;
 
 /// The list has one item, and room for so many more.
 fn has_room(list: &OrderList<&Heap>, room: u32) -> bool {
@@ -29,16 +28,13 @@ fn ask_list(heap: &Heap, list: &mut OrderList<&Heap>, has_hint: bool, told: &mut
 }
 
 /// Asks two new lists.
-pub(super) fn call_list(heap: &Heap, told: &mut Told) -> bool {
+pub(super) fn call_list(heap: &Heap, told: &mut Told) -> Asked {
     let mut is_right = true;
     for has_hint in &[false, true] {
-        is_right &= is_made!(
-            told,
-            "OrderList::new",
-            AllocError,
-            OrderList::new(heap),
-            mut list => ask_list(heap, &mut list, *has_hint, told)
-        );
+        let Ok(mut list) = OrderList::new(heap) else {
+            return Err("OrderList::new");
+        };
+        is_right &= ask_list(heap, &mut list, *has_hint, told);
     }
-    is_right
+    Ok(is_right)
 }

@@ -3,7 +3,7 @@
 ghost use Rattle.std.specs.Prelude.{◌≡◌};
 ghost use Rattle.frame_steps.specs.Frames.{Stands};
 
-use super::{Heap, Told, is_text};
+use super::{Asked, Heap, Told};
 use crate::worked::{FIB, PAIR};
 use frame_steps::{Frame, FrameFault};
 use model_accesses::{Kind, Rule};
@@ -20,44 +20,35 @@ use text_words::{Act, Monoid, Request, TextFault};
 const PRINTED: &[u8] =
     b"cilk 1\nmem x\nreducer h sum\nfunc main z\nput h 0\ncall fib 10\nget r h\nwrite x r\nend\nfunc fib n\nlet t = n < 2\nif t\nupdate h n\nelse\nlet a = n - 1\nlet b = n - 2\nspawn fib a\ncall fib b\nsync\nend\nend\n";
 
-/// The program tells its text.
-fn is_printed(heap: &Heap, program: &Program<&Heap>, told: &mut Told) -> bool {
-    let printed = twice!(told, "Program::print", AllocError, program.print(heap));
-    is_text(&printed, PRINTED)
-}
-
-/// The program tells its shape.
-fn is_shaped(heap: &Heap, program: &Program<&Heap>, told: &mut Told) -> bool {
-    match twice!(told, "Program::shape", AllocError, program.shape(heap)) {
-        Ok(shape) => shape.cells == 1 && shape.monoids.as_slice() == [Monoid::Sum].as_slice(),
-        Err(AllocError) => false,
-    }
-}
-
-/// The program tells its elision.
-fn is_elided(heap: &Heap, program: &Program<&Heap>, told: &mut Told) -> bool {
-    match twice!(told, "elide", ElideFault::Memory, elide(heap, program, 713)) {
-        Ok(elided) => elided.memory.as_slice() == [55].as_slice() && elided.requests == 713,
-        Err(_) => false,
-    }
-}
-
 /// The program, which was read, tells its text, its shape and its elision.
-fn ask_program(heap: &Heap, program: &Program<&Heap>, told: &mut Told) -> bool {
-    program.functions.as_slice().len() == 2
-        && is_printed(heap, program, told)
-        && is_shaped(heap, program, told)
-        && is_elided(heap, program, told)
+fn ask_program(heap: &Heap, program: &Program<&Heap>) -> Asked {
+    let Ok(text) = program.print(heap) else {
+        return Err("Program::print");
+    };
+    let Ok(shape) = program.shape(heap) else {
+        return Err("Program::shape");
+    };
+    let elided = match elide(heap, program, 713) {
+        Ok(elided) => elided,
+        Err(ElideFault::Memory) => return Err("elide"),
+        Err(_) => return Ok(false),
+    };
+    Ok(
+        program.functions.as_slice().len() == 2
+            && text.as_slice() == PRINTED
+            && shape.cells == 1
+            && shape.monoids.as_slice() == [Monoid::Sum].as_slice()
+            && elided.memory.as_slice() == [55].as_slice()
+            && elided.requests == 713,
+    )
 }
 
-pub(super) fn call_program(heap: &Heap, told: &mut Told) -> bool {
-    is_made!(
-        told,
-        "Program::parse",
-        TextFault::Memory,
-        Program::parse(heap, FIB),
-        program => ask_program(heap, &program, told)
-    )
+pub(super) fn call_program(heap: &Heap, told: &mut Told) -> Asked {
+    match Program::parse(heap, FIB) {
+        Ok(program) => again!(told, ask_program(heap, &program)),
+        Err(TextFault::Memory) => Err("Program::parse"),
+        Err(_) => Ok(false),
+    }
 }
 
 /// A function that calls another, which writes.
@@ -92,11 +83,14 @@ fn is_called(program: &Program<Global>, frame: &mut Frame<&Heap>, told: &mut Tol
     answered.is_ok() && wants(program, frame, Act::Write(0, 5), 7)
 }
 
-/// Frames of the program are answered a call, or get room for one.
-fn call_frames(heap: &Heap, program: &Program<Global>, told: &mut Told) -> bool {
-    let mut answered = Frame::new(heap, program, program.main(), 0);
-    let mut roomy = Frame::new(heap, program, program.main(), 0);
-    let is_answered = is_called(program, &mut answered, told);
+/// Frames of a program are answered a call, or get room for one.
+pub(super) fn call_frames(alloc: Global, heap: &Heap, told: &mut Told) -> Asked {
+    let Ok(program) = Program::parse(alloc, CALLING) else {
+        return Ok(false);
+    };
+    let mut answered = Frame::new(heap, &program, program.main(), 0);
+    let mut roomy = Frame::new(heap, &program, program.main(), 0);
+    let is_answered = is_called(&program, &mut answered, told);
     let reserved = twice!(
         told,
         "Frame::reserve_call",
@@ -104,7 +98,7 @@ fn call_frames(heap: &Heap, program: &Program<Global>, told: &mut Told) -> bool 
         roomy.reserve_call(),
         !roomy.has_room()
     );
-    is_answered && reserved.is_ok() && roomy.has_room()
+    Ok(is_answered && reserved.is_ok() && roomy.has_room())
 }
 
 /// A run of PAIR in which the child writes first.
@@ -140,18 +134,13 @@ const ENTRIES: &[Entry] = &[
     entry!(3, Act::Return, 7, Answer::Finished),
 ];
 
-/// Makes the calls of frames, and replays the run.
-pub(super) fn call_run(alloc: Global, heap: &Heap, told: &mut Told) -> bool {
-    let (Ok(calling), Ok(pair)) = (Program::parse(alloc, CALLING), Program::parse(alloc, PAIR))
-    else {
-        return false;
+/// Replays the run.
+pub(super) fn replay_pair(alloc: Global, heap: &Heap) -> Asked {
+    let Ok(pair) = Program::parse(alloc, PAIR) else {
+        return Ok(false);
     };
-    call_frames(heap, &calling, told)
-        && twice!(
-            told,
-            "replay",
-            ReplayFault::Memory,
-            replay(heap, &pair, ENTRIES)
-        )
-        .is_ok()
+    match replay(heap, &pair, ENTRIES) {
+        Err(ReplayFault::Memory) => Err("replay"),
+        replayed => Ok(replayed.is_ok()),
+    }
 }

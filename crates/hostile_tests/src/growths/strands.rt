@@ -1,8 +1,7 @@
 //! Growths of strands.
 
-use super::{Heap, Told, note};
+use super::{Asked, Heap, Told, note};
 use sp_labels::{Returned, SpFault, Spawned, Strands};
-use std::alloc::AllocError;
 
 /// The strand has begun or not, and runs or not.
 fn stands(strands: &Strands<&Heap>, strand: u32, begun: bool, running: bool) -> bool {
@@ -74,24 +73,20 @@ fn call_function(strands: &mut Strands<&Heap>, told: &mut Told) -> bool {
 fn ask(heap: &Heap, strands: &mut Strands<&Heap>, turn: u32, told: &mut Told) -> bool {
     stand(strands, false, false)
         && match turn {
-            0 => reserve(heap, strands, false, told),
-            1 => reserve(heap, strands, true, told),
+            0 | 1 => reserve(heap, strands, turn == 1, told),
             2 => spawn(strands, told),
             _ => call_function(strands, told),
         }
 }
 
 /// Asks four new ones.
-pub(super) fn call_strands(heap: &Heap, told: &mut Told) -> bool {
+pub(super) fn call_strands(heap: &Heap, told: &mut Told) -> Asked {
     let mut is_right = true;
     for turn in 0..4u32 {
-        is_right &= is_made!(
-            told,
-            "Strands::new",
-            AllocError,
-            Strands::new(heap),
-            mut strands => ask(heap, &mut strands, turn, told)
-        );
+        let Ok(mut strands) = Strands::new(heap) else {
+            return Err("Strands::new");
+        };
+        is_right &= ask(heap, &mut strands, turn, told);
     }
-    is_right
+    Ok(is_right)
 }

@@ -1,10 +1,6 @@
 //! Growths of traces and of their texts.
 
-ghost use Rattle.std.specs.Prelude.{◌<◌};
-ghost use Rattle.text_words.specs.Declarations.{cells_of};
-
-use super::{Heap, Told, is_text};
-use std::alloc::AllocError;
+use super::{Asked, Heap, Told};
 use text_words::{Monoid, TextFault};
 use trace_text::{Trace, cell_name};
 
@@ -15,39 +11,27 @@ const TEXT: &[u8] =
 /// Its reducers.
 const MONOIDS: &[Monoid] = &[Monoid::Sum, Monoid::Min];
 
-/// The trace tells the name of its third cell.
-fn is_named(heap: &Heap, trace: &Trace<&Heap>, told: &mut Told) -> bool
-    requires { 2 < cells_of trace.now.mems }
-{
-    let mems = trace.mems.as_slice();
-    match twice!(told, "cell_name", AllocError, cell_name(heap, mems, 2)) {
-        Ok(name) => name.as_str() == "a[1]",
-        Err(AllocError) => false,
+/// The trace, which was read, tells its text, its shape, and then the name of its third cell. It has five lines that ask for something.
+fn ask_trace(heap: &Heap, trace: &Trace<&Heap>) -> Asked {
+    let Ok(text) = trace.print(heap) else {
+        return Err("Trace::print");
+    };
+    let Ok(shape) = trace.shape(heap) else {
+        return Err("Trace::shape");
+    };
+    if shape.cells != 3 || shape.monoids.as_slice() != MONOIDS {
+        return Ok(false);
     }
+    let Ok(name) = cell_name(heap, trace.mems.as_slice(), 2) else {
+        return Err("cell_name");
+    };
+    Ok(trace.lines.len() == 5 && text.as_slice() == TEXT && name.as_str() == "a[1]")
 }
 
-/// The trace tells its shape, and then the name of its last cell.
-fn tells_shape(heap: &Heap, trace: &Trace<&Heap>, told: &mut Told) -> bool {
-    match twice!(told, "Trace::shape", AllocError, trace.shape(heap)) {
-        Ok(shape) => {
-            shape.cells == 3 && shape.monoids.as_slice() == MONOIDS && is_named(heap, trace, told)
-        }
-        Err(AllocError) => false,
+pub(super) fn call_trace(heap: &Heap, told: &mut Told) -> Asked {
+    match Trace::parse(heap, TEXT) {
+        Ok(trace) => again!(told, ask_trace(heap, &trace)),
+        Err(TextFault::Memory) => Err("Trace::parse"),
+        Err(_) => Ok(false),
     }
-}
-
-/// The trace tells its text. It has five lines that ask for something.
-fn is_printed(heap: &Heap, trace: &Trace<&Heap>, told: &mut Told) -> bool {
-    let printed = twice!(told, "Trace::print", AllocError, trace.print(heap));
-    trace.lines.len() == 5 && is_text(&printed, TEXT)
-}
-
-pub(super) fn call_trace(heap: &Heap, told: &mut Told) -> bool {
-    is_made!(
-        told,
-        "Trace::parse",
-        TextFault::Memory,
-        Trace::parse(heap, TEXT),
-        trace => is_printed(heap, &trace, told) && tells_shape(heap, &trace, told)
-    )
 }
