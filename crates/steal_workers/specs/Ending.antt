@@ -41,7 +41,7 @@ AreSomeOf xs (y ∷ ys) = AreSomeOf xs ys ⊎ ((rest : List _) × (xs ≡ y ∷ 
 
 -- what comes of workers that were hired
 pub record Ended {L A : Type 0} (hired : List (Worker L A)) (result : Result (Vec (WorkerLog L A) A) RunFault) : Type 0 where
-  -- the workers as their threads were to begin, those that came back, and whether all threads could be started
+  -- the workers as they were to begin, those that came back, and whether all threads could be started
   pub began : List (Worker L A)
   pub back : List (Worker L A)
   pub all : Bool
