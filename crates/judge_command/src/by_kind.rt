@@ -1,4 +1,4 @@
-//! Judging the requests of a trace, with code of its own for each kind of act.
+//! Judging the requests of a trace, with code of its own for each kind of access.
 //!
 //! [`judge`] does what this does, and is faster (`bench/judge` measures it), since [`judge_one`] knows which replies there may be where it
 //! puts their lines:
@@ -26,7 +26,7 @@ ghost use Rattle.race_gate.specs.Accesses.{act_of_cell, act_of_reducer};
 
 use crate::status::StatusFlags;
 use command_streams::{LineBuffer, Watched};
-use race_gate::{CellAct, ControlAct, Core, GateFault, ReducerAct, Reply};
+use race_gate::{CellAct, Core, GateFault, ReducerAct, Reply};
 use std::alloc::{AllocError, Allocator};
 use std::io::Write;
 use text_words::{Act, Request};
@@ -78,14 +78,6 @@ fn tell<A: Allocator, W: Write>(verdicts: &mut Verdicts<A>, output: &mut Watched
         Reply::Done(_) => note(verdicts, output, reply),
         Reply::Illegal(fault) => note_fault(verdicts, output, *fault),
     }
-}
-
-// Judges an act of control and tells the reply: a macro, since as a function it is longer than what the compiler puts in line.
-macro_rules! tell_control {
-    ($core:ident, $verdicts:ident, $output:ident, $request:ident, $act:expr) => {{
-        let reply = $core.reply_to_control($request, $act);
-        tell($verdicts, $output, &reply);
-    }};
 }
 
 /// Judges an access of a cell and tells the reply.
@@ -153,10 +145,6 @@ fn judge_one<A: Allocator + Clone, W: Write>(
         wrote (W.contents (held output.new)) (has_failed output.new) }
 {
     match request.act {
-        Act::Spawn => tell_control!(core, verdicts, output, request, ControlAct::Spawn),
-        Act::Sync => tell_control!(core, verdicts, output, request, ControlAct::Sync),
-        Act::Call => tell_control!(core, verdicts, output, request, ControlAct::Call),
-        Act::Return => tell_control!(core, verdicts, output, request, ControlAct::Return),
         Act::Read(cell) => {
             let act = CellAct::Read(cell);
             tell_cell(core, verdicts, output, request, act);
@@ -180,6 +168,10 @@ fn judge_one<A: Allocator + Clone, W: Write>(
         Act::Get(reducer) => {
             let act = ReducerAct::Get(reducer);
             tell_reducer(core, verdicts, output, request, act);
+        }
+        Act::Spawn | Act::Sync | Act::Call | Act::Return => {
+            let reply = core.reply(request);
+            tell(verdicts, output, &reply);
         }
     }
 }
