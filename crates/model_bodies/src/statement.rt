@@ -6,7 +6,7 @@ ghost use Rattle.std.specs.Prelude.{◌<◌};
 pub const REGISTERS: usize = 17;
 
 /// A register of a function by its number: 0 is `ok`, 1 the parameter, and then in the order in which the text first names them.
-#[derive(Clone, Copy, Debug, PartialEq, Eq)]
+#[derive(Clone, Copy, Debug)]
 pub struct Register {
     /// Its number.
     pub index: u8,
@@ -14,7 +14,7 @@ pub struct Register {
 }
 
 /// A number, or what a register holds.
-#[derive(Clone, Copy, Debug, PartialEq, Eq)]
+#[derive(Clone, Copy, Debug)]
 pub enum Operand {
     /// This number.
     Number(u64),
@@ -23,7 +23,7 @@ pub enum Operand {
 }
 
 /// What is assigned to a register. Sums, differences and products are modulo 2^64; `Less` is 1 or 0.
-#[derive(Clone, Copy, Debug, PartialEq, Eq)]
+#[derive(Clone, Copy, Debug)]
 pub enum Expression {
     /// An operand alone.
     Plain(Operand),
@@ -38,7 +38,7 @@ pub enum Expression {
 }
 
 /// Which cell an access means.
-#[derive(Clone, Copy, Debug, PartialEq, Eq)]
+#[derive(Clone, Copy, Debug)]
 pub enum Location {
     /// The cell with this number, of a memory of one cell.
     Cell(u32),
@@ -55,7 +55,7 @@ pub enum Location {
 
 /// A line of a body. The places in `If` and `Else` are numbers of lines with words in the body, from 0 on: the place that is gone on at
 /// where the part behind them is left out.
-#[derive(Clone, Copy, Debug, PartialEq, Eq)]
+#[derive(Clone, Copy, Debug)]
 pub enum Statement {
     /// The register takes the value of the expression.
     Let {

@@ -1,13 +1,11 @@
 //! Programs as text: what they have, and the names of cells.
 
 use super::checks::has_cells;
-use super::registers::at;
 use crate::checks::equal;
-use program_text::{Expression, Function, Operand, Program, Statement};
-use std::alloc::Global;
+use program_text::{Function, Program};
+use std::alloc::{AllocError, Global};
 use std::process::Abort;
 use std::test::Fail;
-use text_words::TextFault;
 
 const FIB: &[u8] =
     b"cilk 1\nmem x\nreducer h sum\nfunc main z\n  put h 0\n  call fib 10\n  get r h\n  write x r\nend\nfunc fib n\n  let t = n < 2\n  if t\n    update h n\n  else\n    let a = n - 1\n    let b = n - 2\n    spawn fib a\n    call fib b\n    sync\n  end\nend\n";
@@ -22,8 +20,8 @@ struct Contents {
     functions: &'static [(Outline, &'static [&'static str])],
 }
 
-/// A statement behind the number of its function and its place there.
-type Placed = (usize, usize, Statement);
+/// A statement, as it is shown, behind the number of its function and its place there.
+type Placed = (usize, usize, &'static str);
 
 /// Checks that the function has this outline and these registers.
 fn check_function(
@@ -46,15 +44,32 @@ fn check_function(
     }
 }
 
+/// The statement at that place of the function of that number, as it is shown.
+fn show_statement(
+    alloc: Global,
+    functions: &[Function<Global>],
+    function: usize,
+    place: usize,
+) -> Result<String, AllocError> {
+    let found = match functions.get(function) {
+        Some(function) => function.body.as_slice().get(place),
+        None => None,
+    };
+    format!(in alloc; "{found:?}")
+}
+
 /// Checks that these statements stand in the functions.
-fn check_statements(rt: &impl Abort, functions: &[Function<Global>], statements: &[Placed]) {
-    for (function, place, statement) in statements {
-        let found = match functions.get(*function) {
-            Some(function) => function.body.as_slice().get(*place).copied(),
-            None => None,
-        };
-        equal(rt, place, &found, &Some(*statement));
+fn check_statements(
+    rt: &impl Abort,
+    alloc: Global,
+    functions: &[Function<Global>],
+    statements: &[Placed],
+) -> Result<(), AllocError> {
+    for (function, place, wanted) in statements {
+        let found = show_statement(alloc, functions, *function, *place)?;
+        equal(rt, &(*function, *place), &found.as_str(), wanted);
     }
+    Ok(())
 }
 
 /// Checks that the program has this.
@@ -73,10 +88,10 @@ fn check(
     alloc: Global,
     wanted: &Contents,
     statements: &[Placed],
-) -> Result<(), TextFault> {
+) -> Result<(), Fail> {
     let program = Program::parse(alloc, wanted.text)?;
     check_contents(rt, &program, wanted);
-    check_statements(rt, program.functions.as_slice(), statements);
+    check_statements(rt, alloc, program.functions.as_slice(), statements)?;
     Ok(())
 }
 
@@ -100,69 +115,49 @@ const CALLS: &Contents = &Contents {
     ],
 };
 
+/// Statements of FIBONACCI: a comparison, what it decides, and a spawn.
+const OF_FIBONACCI: &[Placed] = &[
+    (
+        1,
+        0,
+        "Some(Let { line: 11, register: Register { index: 2 }, value: Less(Held(Register { index: 1 }), Number(2)) })",
+    ),
+    (
+        1,
+        1,
+        "Some(If { line: 12, register: Register { index: 2 }, otherwise: 4 })",
+    ),
+    (1, 3, "Some(Else { line: 14, after: 10 })"),
+    (
+        1,
+        6,
+        "Some(Spawn { line: 17, function: 1, argument: Held(Register { index: 3 }) })",
+    ),
+    (1, 9, "Some(End { line: 20 })"),
+];
+
+/// The calls of CALLS.
+const OF_CALLS: &[Placed] = &[
+    (
+        0,
+        0,
+        "Some(Call { line: 3, function: 2, argument: Held(Register { index: 1 }) })",
+    ),
+    (
+        1,
+        1,
+        "Some(Call { line: 7, function: 0, argument: Held(Register { index: 2 }) })",
+    ),
+];
+
 #[test]
 fn fibonacci(rt: HostRuntime) -> Result<(), Fail> {
-    let register = at(2);
-    let value = Expression::Less(Operand::Held(at(1)), Operand::Number(2));
-    let argument = Operand::Held(at(3));
-    let (line, function) = (11, 1);
-    let statements = [
-        (
-            1,
-            0,
-            Statement::Let {
-                line,
-                register,
-                value,
-            },
-        ),
-        (
-            1,
-            1,
-            Statement::If {
-                line: 12,
-                register,
-                otherwise: 4,
-            },
-        ),
-        (
-            1,
-            3,
-            Statement::Else {
-                line: 14,
-                after: 10,
-            },
-        ),
-        (
-            1,
-            6,
-            Statement::Spawn {
-                line: 17,
-                function,
-                argument,
-            },
-        ),
-        (1, 9, Statement::End { line: 20 }),
-    ];
-    check(&rt, rt.alloc(), FIBONACCI, &statements)?;
-    Ok(())
+    check(&rt, rt.alloc(), FIBONACCI, OF_FIBONACCI)
 }
 
 #[test]
 fn names_of_the_whole_text(rt: HostRuntime) -> Result<(), Fail> {
-    let to_last = Statement::Call {
-        line: 3,
-        function: 2,
-        argument: Operand::Held(at(1)),
-    };
-    let to_first = Statement::Call {
-        line: 7,
-        function: 0,
-        argument: Operand::Held(at(2)),
-    };
-    let statements = [(0, 0, to_last), (1, 1, to_first)];
-    check(&rt, rt.alloc(), CALLS, &statements)?;
-    Ok(())
+    check(&rt, rt.alloc(), CALLS, OF_CALLS)
 }
 
 #[test]
