@@ -1,5 +1,5 @@
 -- What the notes of some lines tell: the first that speaks of a mark or a cell counts.
-use Rattle.std.specs.Prelude.{◌≡◌, ℕ, ◌==◌, ◌&&◌, Bool, length, Option, None, Some, List, [], ◌∷◌, ◌++◌, map, cond, String, string_bytes}
+use Rattle.std.specs.Prelude.{◌≡◌, ℕ, ◌==◌, Bool, Option, None, Some, List, [], ◌∷◌, ◌++◌, map, cond, String, string_bytes}
 use Rattle.std.specs.List.{filter_map, before_first}
 use Rattle.std.specs.Option.{option_map, option_or, option_and_then}
 use Rattle.std.specs.Ordering.{nat_cmp}
@@ -85,10 +85,6 @@ noted_place notes mark = option_and_then split_place (kept_place notes mark)
 
 abbrev pub noted_text : {A : Type 0} → Notes A → List ℕ → Option (List ℕ)
 noted_text notes cell = option_or (kept_cell notes cell) (kept_memory notes (memory_of cell))
-
--- Nothing is kept of marks, nor of the run.
-abbrev pub is_silent : {A : Type 0} → Notes A → Bool
-is_silent notes = (length notes.places.entries == 0) && (length notes.runs.items == 0)
 
 -- They are the notes of these lines.
 pub record AreNotes {A : Type 0} (lines : List (List ℕ)) (notes : Notes A) : Type 0 where

@@ -5,7 +5,7 @@ ghost use Rattle.std.specs.Option.{option_map, option_or};
 ghost use Rattle.std.specs.Str.{bytes_eq};
 ghost use Rattle.text_words.specs.Text.{lines};
 ghost use Rattle.trace_notes.specs.Places.{place_parts};
-ghost use Rattle.trace_notes.specs.Notes.{place_told, text_told, runs_told, place_in, text_in, memory_of, noted_place, noted_text, kept_runs, is_silent, AreNotes, Adds};
+ghost use Rattle.trace_notes.specs.Notes.{place_told, text_told, runs_told, place_in, text_in, memory_of, noted_place, noted_text, kept_runs, AreNotes, Adds};
 
 use crate::line::{Note, is_comment, note_on};
 use crate::place::{Place, split_place};
@@ -185,12 +185,5 @@ impl<A: Allocator + Copy> Notes<A> {
         ensures told { (lines : List (List ℕ)) → AreNotes lines self.now → map string_bytes result.now ≡ runs_told lines }
     {
         self.runs.as_slice()
-    }
-
-    /// Whether no note speaks of a mark or of the run.
-    pub fn is_silent(&self) -> bool
-        ensures { result ≡ is_silent self.now }
-    {
-        self.places.is_empty() && self.runs.is_empty()
     }
 }

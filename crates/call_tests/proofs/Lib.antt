@@ -1,0 +1,3 @@
+pub mod BranchExamples
+pub mod ReadExamples
+mod Refusals

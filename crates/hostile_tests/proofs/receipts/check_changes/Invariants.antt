@@ -1,4 +1,0 @@
-use Rattle.hostile_tests.proofs.receipts.check_changes.Given as goal
-
-abbrev pub ghosts-gather_changed : goal.ghosts-gather_changed
-ghosts-gather_changed g a = record { name = a.blank.name; parts = a.blank.parts }

@@ -1,4 +1,0 @@
-use Rattle.hostile_tests.proofs.rounds.end_with_brand.Given as goal
-
-abbrev pub ghosts-end_of : goal.ghosts-end_of
-ghosts-end_of g a = record { name = a.blank.name; parts = a.blank.parts }

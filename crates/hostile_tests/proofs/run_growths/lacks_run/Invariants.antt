@@ -1,4 +1,0 @@
-use Rattle.hostile_tests.proofs.run_growths.lacks_run.Given as goal
-
-abbrev pub ghosts-run_and_gather : goal.ghosts-run_and_gather
-ghosts-run_and_gather g a = record { name = a.blank.name; parts = a.blank.parts }

@@ -1,7 +1,0 @@
-use denote.Param.Send.{sendable}
-use Rattle.std.proofs.Crossing.{crosses}
-use Rattle.steal_workers.proofs.Sharing.{locked_sync_over}
-use Rattle.hostile_tests.proofs.run_growths.run_and_gather.Goals as goal
-
-pub run-requires-sync-G : goal.run-requires-sync-G
-run-requires-sync-G g c κs within = search (sendable, crosses, locked_sync_over) depth 40 fits 20000

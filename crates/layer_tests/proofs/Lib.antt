@@ -1,2 +1,0 @@
-pub mod BranchExamples
-pub mod ReadExamples

@@ -1,4 +1,0 @@
-use Rattle.layer_tests.proofs.tellings.chains.enclose.Goals as goal
-
-pub chain-requires : goal.chain-requires
-chain-requires c = (c.args.gate.now.history, c.requires)
