@@ -75,7 +75,7 @@ race_filled a p b q c m s x y d h z v w e f j g k i t l = simp append_assoc
 pub head_same : (width other height another : ℕ) → width ≡ other → height ≡ another → head_text width height ≡ head_text other another
 head_same width other height another one two = cc
 
-pub planned : {A : Type 0} (old new : Option (List ℕ)) (one other : Plan) (naming : Naming A) (drawing : Drawing A) → one ≡ other →
+pub planned : (old new : Option (List ℕ)) (one other : Plan) (naming : Naming) (drawing : Drawing) → one ≡ other →
     Adds old (picture_text one naming drawing) new → Adds old (picture_text other naming drawing) new
 planned old new one other naming drawing is adds = subst (λ plan. Adds old (picture_text plan naming drawing) new) is adds
 

@@ -55,7 +55,7 @@ abbrev pub most_strands : ℕ
 most_strands = 10_000
 
 -- the drawing of the entries, which are given from the oldest on
-pub record IsDrawing {A : Type 0} (entries : List Entry) (drawing : Drawing A) : Type 0 where
+pub record IsDrawing (entries : List Entry) (drawing : Drawing) : Type 0 where
   pub strands : AreStrands (control_part (reverse entries)) drawing.strands.items
   pub few : length drawing.strands.items ≤ most_strands
   pub edges : AreEdges (control_part (reverse entries)) drawing.edges.items

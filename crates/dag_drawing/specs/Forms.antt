@@ -7,6 +7,6 @@ use Rattle.dag_drawing.specs.Labels.{Naming}
 use Rattle.dag_drawing.specs.Dots.{dot_text}
 use Rattle.dag_drawing.specs.Pictures.{svg_text}
 
-abbrev pub text_in : {A : Type 0} → Form → Naming A → Drawing A → List ℕ
+abbrev pub text_in : Form → Naming → Drawing → List ℕ
 text_in Dot naming drawing = dot_text naming drawing
 text_in Svg naming drawing = svg_text naming drawing

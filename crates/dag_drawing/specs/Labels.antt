@@ -16,16 +16,16 @@ use Rattle.dag_drawing.specs.declared.labels.Names.{Names}
 use Rattle.dag_drawing.specs.Texts.{kind_text, outcome_text, rule_text}
 
 -- what a drawing's cells, reducers and marks are told by
-pub record Naming (A : Type 0) : Type 0 where
+pub record Naming : Type 0 where
   pub mems : List Mem
   pub reducers : List Reducer
-  pub notes : Notes A
+  pub notes : Notes
 
-abbrev pub naming_of : {A : Type 0} → Names A → Naming A
+abbrev pub naming_of : Names → Naming
 naming_of names = record { mems = names.mems.now; reducers = names.reducers.now; notes = names.notes.now }
 
 -- the name that the trace declares for what an act accesses
-abbrev pub plain_name : {A : Type 0} → Naming A → Act → List ℕ
+abbrev pub plain_name : Naming → Act → List ℕ
 plain_name naming (Read location) = name_of_cell naming.mems location
 plain_name naming (Write location value) = name_of_cell naming.mems location
 plain_name naming (Bump location value) = name_of_cell naming.mems location
@@ -35,11 +35,11 @@ plain_name naming (Get reducer) = name_of_reducer naming.reducers reducer
 plain_name naming act = []
 
 -- what the notes say that it stands for, or the name
-abbrev pub told_name : {A : Type 0} → Naming A → List ℕ → List ℕ
+abbrev pub told_name : Naming → List ℕ → List ℕ
 told_name naming name = unwrap_or (noted_text naming.notes name) name
 
 -- the place of an access in a program's source, where a note says it
-unfoldable pub place_of : {A : Type 0} → Naming A → Access → Option PlaceParts
+unfoldable pub place_of : Naming → Access → Option PlaceParts
 place_of naming access = noted_place naming.notes access.request.line
 
 -- the place, or the number of the entry
@@ -48,13 +48,13 @@ site_text (Some place) entry = place.location
 site_text None entry = decimal entry
 
 -- an access
-abbrev pub access_line : {A : Type 0} → Naming A → Access → List ℕ
+abbrev pub access_line : Naming → Access → List ℕ
 access_line naming access =
     site_text (place_of naming access) access.entry ++ codes " " ++ kind_text access.request.act ++ codes " " ++
     told_name naming (plain_name naming access.request.act) ++ outcome_text access.answer
 
 -- the place of the first access that has one
-abbrev pub first_place : {A : Type 0} → Naming A → List Access → Option PlaceParts
+abbrev pub first_place : Naming → List Access → Option PlaceParts
 first_place naming [] = None
 first_place naming (access ∷ rest) = option_or (place_of naming access) (first_place naming rest)
 
@@ -67,7 +67,7 @@ function_text (Some place) = function_within place.function
 function_text None = []
 
 -- a strand's number and its function
-abbrev pub head_line : {A : Type 0} → Naming A → ℕ → List Access → List ℕ
+abbrev pub head_line : Naming → ℕ → List Access → List ℕ
 head_line naming strand own = decimal strand ++ function_text (first_place naming own)
 
 -- the most accesses of a strand that are told
@@ -79,14 +79,14 @@ abbrev pub rest_lines : ℕ → List (List ℕ)
 rest_lines count = cond (nat_lt most_told count) ((codes "and " ++ decimal (count - most_told) ++ codes " more") ∷ []) []
 
 -- the lines of a strand with its accesses
-unfoldable pub node_lines : {A : Type 0} → Naming A → ℕ → List Access → List (List ℕ)
+unfoldable pub node_lines : Naming → ℕ → List Access → List (List ℕ)
 node_lines naming strand own = head_line naming strand own ∷ map (access_line naming) (take most_told own) ++ rest_lines (length own)
 
 -- what is written beside a race: its rule and what was accessed
-abbrev pub race_label : {A : Type 0} → Naming A → Race → List ℕ
+abbrev pub race_label : Naming → Race → List ℕ
 race_label naming race =
     rule_text race.request.act race.witness.kind ++ codes " on " ++ told_name naming (plain_name naming race.request.act)
 
 -- what was recorded, line by line
-abbrev pub title_lines : {A : Type 0} → Naming A → List (List ℕ)
+abbrev pub title_lines : Naming → List (List ℕ)
 title_lines naming = kept_runs naming.notes

@@ -58,7 +58,7 @@ node_text plan strand lines =
     lines_text most_characters (left_at plan strand + 8) lines ++ codes "</text>\n</g>\n"
 
 -- the strands, each with those at the head of what is left of the accesses, which stand by strands
-abbrev pub nodes_text : {A : Type 0} → Plan → Naming A → List ℕ → List Access → List ℕ
+abbrev pub nodes_text : Plan → Naming → List ℕ → List Access → List ℕ
 nodes_text plan naming [] accesses = []
 nodes_text plan naming (strand ∷ strands) accesses =
     node_text plan strand (node_lines naming strand (take (count_own strand accesses) accesses)) ++
@@ -91,13 +91,13 @@ label_text plan number from to label =
     codes "\" y=\"" ++ decimal ((top_at plan from + top_at plan to) / 2 - rise number) ++ codes "\">" ++ xml_text label ++ codes "</text>\n</g>\n"
 
 -- a race, from the strand of the earlier access to that of the refused one
-unfoldable pub race_text : {A : Type 0} → Plan → Naming A → ℕ → Race → List ℕ
+unfoldable pub race_text : Plan → Naming → ℕ → Race → List ℕ
 race_text plan naming number race =
     ends_text race ++ arc_text plan number race.witness.strand race.request.strand ++
     label_text plan number race.witness.strand race.request.strand (race_label naming race)
 
 -- the races from that with this number on
-abbrev pub races_text : {A : Type 0} → Plan → Naming A → ℕ → List Race → List ℕ
+abbrev pub races_text : Plan → Naming → ℕ → List Race → List ℕ
 races_text plan naming number [] = []
 races_text plan naming number (race ∷ races) = race_text plan naming number race ++ races_text plan naming (number + 1) races
 
@@ -117,11 +117,11 @@ title_text (line ∷ lines) =
     codes "<text id=\"title\" y=\"8\">" ++ lines_text most_title_characters 16 (take most_title_lines (line ∷ lines)) ++ codes "</text>\n"
 
 -- a drawing by its plan
-abbrev pub picture_text : {A : Type 0} → Plan → Naming A → Drawing A → List ℕ
+abbrev pub picture_text : Plan → Naming → Drawing → List ℕ
 picture_text plan naming drawing =
     head_text (width_of plan) (height_of plan) ++ title_text (title_lines naming) ++ flat_map (edge_text plan) drawing.edges.items ++
     nodes_text plan naming drawing.strands.items drawing.accesses.items ++ races_text plan naming 0 drawing.races.items ++ codes "</svg>\n"
 
 -- a drawing
-abbrev pub svg_text : {A : Type 0} → Naming A → Drawing A → List ℕ
+abbrev pub svg_text : Naming → Drawing → List ℕ
 svg_text naming drawing = picture_text (plan naming drawing) naming drawing

@@ -55,14 +55,14 @@ abbrev pub longest : ℕ → List (List ℕ) → ℕ
 longest most [] = most
 longest most (line ∷ lines) = longest (max most (length line)) lines
 
-abbrev pub longest_line : {A : Type 0} → Naming A → ℕ → List ℕ → List Access → ℕ
+abbrev pub longest_line : Naming → ℕ → List ℕ → List Access → ℕ
 longest_line naming most [] accesses = most
 longest_line naming most (strand ∷ strands) accesses =
     longest_line naming (longest most (node_lines naming strand (take (count_own strand accesses) accesses))) strands
     (drop (count_own strand accesses) accesses)
 
 -- the most lines of a strand
-abbrev pub most_lines : {A : Type 0} → Naming A → ℕ → List ℕ → List Access → ℕ
+abbrev pub most_lines : Naming → ℕ → List ℕ → List Access → ℕ
 most_lines naming most [] accesses = most
 most_lines naming most (strand ∷ strands) accesses =
     most_lines naming (max most (length (node_lines naming strand (take (count_own strand accesses) accesses)))) strands
@@ -100,7 +100,7 @@ pub record Plan : Type 0 where
   pub above : ℕ
   pub title : ℕ
 
-abbrev pub plan_of : {A : Type 0} → Layout A → Plan
+abbrev pub plan_of : Layout → Plan
 plan_of layout = record {
   depths = layout.depths.items;
   columns = layout.columns.items;
@@ -132,31 +132,31 @@ most_numbers = 20_000
 abbrev pub last_of : List ℕ → ℕ
 last_of numbers = slice_index_or numbers (length numbers - 1) 0
 
-abbrev pub zeros : {A : Type 0} → Drawing A → List ℕ
+abbrev pub zeros : Drawing → List ℕ
 zeros drawing = replicate (capped most_numbers (last_of drawing.strands.items) + 1) 0
 
-abbrev pub depths_in : {A : Type 0} → Drawing A → List ℕ
+abbrev pub depths_in : Drawing → List ℕ
 depths_in drawing = depths_by (zeros drawing) drawing.edges.items
 
-abbrev pub columns_in : {A : Type 0} → Drawing A → List ℕ
+abbrev pub columns_in : Drawing → List ℕ
 columns_in drawing = columns_by (depths_in drawing) (zeros drawing) (zeros drawing) drawing.strands.items
 
-abbrev pub counts_in : {A : Type 0} → Drawing A → List ℕ
+abbrev pub counts_in : Drawing → List ℕ
 counts_in drawing = counts_by (depths_in drawing) (zeros drawing) drawing.strands.items
 
-abbrev pub characters_in : {A : Type 0} → Naming A → Drawing A → ℕ
+abbrev pub characters_in : Naming → Drawing → ℕ
 characters_in naming drawing = capped most_characters (longest_line naming 0 drawing.strands.items drawing.accesses.items)
 
-abbrev pub lines_in : {A : Type 0} → Naming A → Drawing A → ℕ
+abbrev pub lines_in : Naming → Drawing → ℕ
 lines_in naming drawing = capped most_box_lines (most_lines naming 0 drawing.strands.items drawing.accesses.items)
 
-abbrev pub title_width : {A : Type 0} → Naming A → ℕ
+abbrev pub title_width : Naming → ℕ
 title_width naming = 8 * capped most_title_characters (longest 0 (title_lines naming)) + 32
 
-abbrev pub title_height : {A : Type 0} → Naming A → ℕ
+abbrev pub title_height : Naming → ℕ
 title_height naming = 16 * capped most_title_lines (length (title_lines naming))
 
-abbrev pub plan : {A : Type 0} → Naming A → Drawing A → Plan
+abbrev pub plan : Naming → Drawing → Plan
 plan naming drawing = record {
   depths = depths_in drawing;
   columns = columns_in drawing;

@@ -3,11 +3,11 @@
 ghost use Rattle.text_buffers.specs.Builders.{Adds};
 ghost use Rattle.dag_drawing.specs.Blanks.{filled};
 
-use std::alloc::Allocator;
+use std::alloc::Global;
 use text_buffers::TextBuilder;
 
 /// Adds words, with the numbers one by one in their blanks, each of which is a `#`.
-pub(crate) fn push_filled<A: Allocator>(text: &mut TextBuilder<A>, words: &str, numbers: &[u64])
+pub(crate) fn push_filled(text: &mut TextBuilder, words: &str, numbers: &[u64])
     ensures { Adds text.old (filled words.now numbers.now) text.new }
 {
     let mut next = 0;

@@ -10,11 +10,11 @@ ghost use Rattle.dag_drawing.specs.Dots.{line_text, box_text, boxes_text, arc_te
 use crate::blanks::push_filled;
 use crate::drawing::{Access, Drawing, Edge, EdgeKind, Race};
 use crate::labels::{Names, node_lines, own_of, race_label};
-use std::alloc::{AllocError, Allocator};
+use std::alloc::{AllocError, Global};
 use text_buffers::TextBuilder;
 
 /// Adds a byte as it stands between quotation marks.
-fn push_escape<A: Allocator>(text: &mut TextBuilder<A>, byte: u8)
+fn push_escape(text: &mut TextBuilder, byte: u8)
     ensures { Adds text.old (escape byte) text.new }
 {
     if byte == b'"' || byte == b'\\' {
@@ -25,7 +25,7 @@ fn push_escape<A: Allocator>(text: &mut TextBuilder<A>, byte: u8)
 }
 
 /// Adds text as it stands between quotation marks.
-fn push_escaped<A: Allocator>(text: &mut TextBuilder<A>, name: &str)
+fn push_escaped(text: &mut TextBuilder, name: &str)
     ensures { Adds text.old (escaped name.now) text.new }
 {
     for byte in name.as_bytes() {
@@ -34,7 +34,7 @@ fn push_escaped<A: Allocator>(text: &mut TextBuilder<A>, name: &str)
 }
 
 /// Adds the lines of a label.
-fn push_lines<A: Allocator>(text: &mut TextBuilder<A>, lines: &[String<A>])
+fn push_lines(text: &mut TextBuilder, lines: &[String])
     ensures { Adds text.old (flat_map line_text (map string_bytes lines.now)) text.new }
 {
     for line in lines {
@@ -44,10 +44,10 @@ fn push_lines<A: Allocator>(text: &mut TextBuilder<A>, lines: &[String<A>])
 }
 
 /// Adds a strand with its accesses.
-fn push_box<A: Allocator + Copy>(
-    alloc: A,
-    text: &mut TextBuilder<A>,
-    names: &Names<'_, A>,
+fn push_box(
+    alloc: Global,
+    text: &mut TextBuilder,
+    names: &Names<'_>,
     strand: usize,
     own: &[Access],
 )
@@ -63,10 +63,10 @@ fn push_box<A: Allocator + Copy>(
 }
 
 /// Adds strands, each with its own of the accesses.
-fn push_boxes<A: Allocator + Copy>(
-    alloc: A,
-    text: &mut TextBuilder<A>,
-    names: &Names<'_, A>,
+fn push_boxes(
+    alloc: Global,
+    text: &mut TextBuilder,
+    names: &Names<'_>,
     strands: &[usize],
     accesses: &[Access],
 )
@@ -93,7 +93,7 @@ pub fn word_of(kind: EdgeKind) -> &'static str
 }
 
 /// Adds edges.
-fn push_edges<A: Allocator>(text: &mut TextBuilder<A>, edges: &[Edge])
+fn push_edges(text: &mut TextBuilder, edges: &[Edge])
     ensures { Adds text.old (flat_map edge_text edges.now) text.new }
 {
     for edge in edges {
@@ -105,10 +105,10 @@ fn push_edges<A: Allocator>(text: &mut TextBuilder<A>, edges: &[Edge])
 }
 
 /// Adds a race.
-fn push_race<A: Allocator + Copy>(
-    alloc: A,
-    text: &mut TextBuilder<A>,
-    names: &Names<'_, A>,
+fn push_race(
+    alloc: Global,
+    text: &mut TextBuilder,
+    names: &Names<'_>,
     race: &Race,
 )
     requires numbered { IsTrue (is_numbered 0 names.now.mems.now) }
@@ -127,10 +127,10 @@ fn push_race<A: Allocator + Copy>(
 }
 
 /// Adds races.
-fn push_races<A: Allocator + Copy>(
-    alloc: A,
-    text: &mut TextBuilder<A>,
-    names: &Names<'_, A>,
+fn push_races(
+    alloc: Global,
+    text: &mut TextBuilder,
+    names: &Names<'_>,
     races: &[Race],
 )
     requires numbered { IsTrue (is_numbered 0 names.now.mems.now) }
@@ -142,7 +142,7 @@ fn push_races<A: Allocator + Copy>(
 }
 
 /// Adds what was recorded.
-fn push_heading<A: Allocator>(text: &mut TextBuilder<A>, runs: &[String<A>])
+fn push_heading(text: &mut TextBuilder, runs: &[String])
     ensures { Adds text.old (heading_text (map string_bytes runs.now)) text.new }
 {
     if runs.is_empty() {
@@ -155,11 +155,11 @@ fn push_heading<A: Allocator>(text: &mut TextBuilder<A>, runs: &[String<A>])
 
 /// The text of a drawing in Graphviz's language: above the graph what was recorded, a node for each strand, an edge for each edge of the
 /// dag, and a red edge for each race. Errors where there is no memory.
-pub fn dot_text<A: Allocator + Copy>(
-    alloc: A,
-    names: &Names<'_, A>,
-    drawing: &Drawing<A>,
-) -> Result<Vec<u8, A>, AllocError>
+pub fn dot_text(
+    alloc: Global,
+    names: &Names<'_>,
+    drawing: &Drawing,
+) -> Result<Vec<u8>, AllocError>
     requires numbered { IsTrue (is_numbered 0 names.now.mems.now) }
     ensures { IfOk result (λ text. text.items ≡ dot_text (naming_of names.now) drawing.now) }
 {

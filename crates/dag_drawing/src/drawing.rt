@@ -10,7 +10,7 @@ use crate::walk::{Walk, walk_entries};
 use access_table::asked_by;
 use model_accesses::Witness;
 use race_gate::{Answer, Entry};
-use std::alloc::{AllocError, Allocator};
+use std::alloc::{AllocError, Global};
 use text_words::Request;
 
 /// The most strands of a drawing.
@@ -61,18 +61,18 @@ pub struct Race {
 }
 
 /// The dag of a history with its accesses and its races.
-pub struct Drawing<A: Allocator> {
+pub struct Drawing {
     /// The strands that have begun, by their numbers, which rise.
-    pub strands: Vec<usize, A>,
+    pub strands: Vec<usize>,
     /// The edges of the dag, in order of the entries that made them.
-    pub edges: Vec<Edge, A>,
+    pub edges: Vec<Edge>,
     /// The accesses, by the numbers of their strands, and those of one strand in order of entries.
-    pub accesses: Vec<Access, A>,
+    pub accesses: Vec<Access>,
     /// The refused accesses that have a witness, in order of entries.
-    pub races: Vec<Race, A>,
+    pub races: Vec<Race>,
 }
 
-impl<A: Allocator> Drop for Drawing<A> {
+impl Drop for Drawing {
     fn drop(self) {
         let Drawing {
             strands: _,
@@ -112,10 +112,10 @@ fn race_at(entry: usize, told: Entry) -> Option<Race>
 }
 
 /// The accesses in order of entries.
-fn accesses_of<A: Allocator + Copy>(
-    alloc: A,
+fn accesses_of(
+    alloc: Global,
     entries: &[Entry],
-) -> Result<Vec<Access, A>, AllocError>
+) -> Result<Vec<Access>, AllocError>
     ensures { IfOk result (λ found. found.items ≡ accesses_told entries.now) }
 {
     let mut found = Vec::new(alloc);
@@ -128,7 +128,7 @@ fn accesses_of<A: Allocator + Copy>(
 }
 
 /// The races in order of entries.
-fn races_of<A: Allocator + Copy>(alloc: A, entries: &[Entry]) -> Result<Vec<Race, A>, AllocError>
+fn races_of(alloc: Global, entries: &[Entry]) -> Result<Vec<Race>, AllocError>
     ensures { IfOk result (λ found. found.items ≡ races_told entries.now) }
 {
     let mut found = Vec::new(alloc);
@@ -141,10 +141,10 @@ fn races_of<A: Allocator + Copy>(alloc: A, entries: &[Entry]) -> Result<Vec<Race
 }
 
 /// The numbers that are marked, in their order.
-fn collect_marked<A: Allocator + Copy>(
-    alloc: A,
+fn collect_marked(
+    alloc: Global,
     marks: &[bool],
-) -> Result<Vec<usize, A>, AllocError>
+) -> Result<Vec<usize>, AllocError>
     ensures { IfOk result (λ strands. strands.items ≡ marked_from 0 marks.now) }
 {
     let mut strands = Vec::new(alloc);
@@ -157,11 +157,11 @@ fn collect_marked<A: Allocator + Copy>(
 }
 
 /// The edges that lead to marked numbers.
-fn edges_to<A: Allocator + Copy>(
-    alloc: A,
+fn edges_to(
+    alloc: Global,
     edges: &[Edge],
     marks: &[bool],
-) -> Result<Vec<Edge, A>, AllocError>
+) -> Result<Vec<Edge>, AllocError>
     ensures { IfOk result (λ kept. kept.items ≡ filter (has_mark marks.now) edges.now) }
 {
     let mut kept = Vec::new(alloc);
@@ -174,10 +174,10 @@ fn edges_to<A: Allocator + Copy>(
 }
 
 /// The accesses by their strands, and those of one strand in order of entries.
-fn sorted_accesses<A: Allocator + Copy>(
-    alloc: A,
+fn sorted_accesses(
+    alloc: Global,
     entries: &[Entry],
-) -> Result<Vec<Access, A>, AllocError>
+) -> Result<Vec<Access>, AllocError>
     ensures { IfOk result (λ accesses. AreAccesses entries.now accesses.items) }
 {
     let mut accesses = accesses_of(alloc, entries)?;
@@ -186,12 +186,12 @@ fn sorted_accesses<A: Allocator + Copy>(
 }
 
 /// The drawing of entries with these strands.
-fn drawing_of<A: Allocator + Copy>(
-    alloc: A,
+fn drawing_of(
+    alloc: Global,
     entries: &[Entry],
-    walk: &Walk<A>,
-    strands: Vec<usize, A>,
-) -> Result<Drawing<A>, AllocError>
+    walk: &Walk,
+    strands: Vec<usize>,
+) -> Result<Drawing, AllocError>
     ensures strands { IfOk result (λ drawing. drawing.strands.items ≡ strands.items) }
     ensures edges { IfOk result (λ drawing. drawing.edges.items ≡ filter (has_mark walk.now.begun.items) walk.now.edges.items) }
     ensures accesses { IfOk result (λ drawing. AreAccesses entries.now drawing.accesses.items) }
@@ -210,10 +210,10 @@ fn drawing_of<A: Allocator + Copy>(
 
 /// The drawing of a history, whose entries are given from the oldest on, or None exactly where more than [`MOST_STRANDS`] strands have
 /// begun. Its time is that of sorting the entries, and its memory is linear in their number. Errors where there is no memory.
-pub fn draw<A: Allocator + Copy>(
-    alloc: A,
+pub fn draw(
+    alloc: Global,
     entries: &[Entry],
-) -> Result<Option<Drawing<A>>, AllocError>
+) -> Result<Option<Drawing>, AllocError>
     requires { IsLegalHistory (reverse entries.now) }
     ensures { IfOk result (λ told. MatchOption told (HasMoreStrands (control_part (reverse entries.now))) (IsDrawing entries.now)) }
 {

@@ -9,7 +9,7 @@ use crate::dot::dot_text;
 use crate::drawing::Drawing;
 use crate::labels::Names;
 use crate::svg::svg_text;
-use std::alloc::{AllocError, Allocator};
+use std::alloc::{AllocError, Global};
 
 /// The language of a drawing's text.
 #[derive(Clone, Copy)]
@@ -23,12 +23,12 @@ pub enum Form {
 /// The text of a drawing, with the names and the notes of the trace: what was recorded, the strands, each with its number, its function
 /// and its accesses, the edges of the dag, each with its kind, and in red the races, each with its rule and what was accessed. In SVG
 /// strands are boxes, each on a level below those that lead to it. Its time is linear in what is drawn. Errors where there is no memory.
-pub fn write_drawing<A: Allocator + Copy>(
-    alloc: A,
+pub fn write_drawing(
+    alloc: Global,
     form: Form,
-    names: &Names<'_, A>,
-    drawing: &Drawing<A>,
-) -> Result<Vec<u8, A>, AllocError>
+    names: &Names<'_>,
+    drawing: &Drawing,
+) -> Result<Vec<u8>, AllocError>
     requires numbered { IsTrue (is_numbered 0 names.now.mems.now) }
     ensures { IfOk result (λ text. text.items ≡ text_in form (naming_of names.now) drawing.now) }
 {

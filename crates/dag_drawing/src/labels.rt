@@ -12,7 +12,7 @@ ghost use Rattle.dag_drawing.specs.Labels.{rest_lines, node_lines, race_label};
 use crate::drawing::{Access, Race};
 use access_table::{Kind, asked_by, rule_word, word};
 use race_gate::Answer;
-use std::alloc::{AllocError, Allocator};
+use std::alloc::{AllocError, Global};
 use std::fmt::Write;
 use text_words::{Act, Mem, Reducer};
 use trace_notes::{Notes, Place};
@@ -23,19 +23,19 @@ const MOST_TOLD: usize = 12;
 
 /// What a drawing's cells, reducers and marks are told by.
 #[derive(Drop)]
-pub struct Names<'a, A: Allocator> {
+pub struct Names<'a> {
     /// The memories that the trace declares.
     pub mems: &'a [Mem],
     /// The reducers that it declares.
     pub reducers: &'a [Reducer],
     /// Its notes.
-    pub notes: &'a Notes<A>,
+    pub notes: &'a Notes,
 }
 
 /// Adds the name that the trace declares for what an act accesses.
-fn put_plain_name<A: Allocator>(
-    name: &mut String<A>,
-    names: &Names<'_, A>,
+fn put_plain_name(
+    name: &mut String,
+    names: &Names<'_>,
     act: Act,
 ) -> Result<(), AllocError>
     requires numbered { IsTrue (is_numbered 0 names.now.mems.now) }
@@ -53,11 +53,11 @@ fn put_plain_name<A: Allocator>(
 }
 
 /// The name that the trace declares for what an act accesses.
-fn plain_name<A: Allocator + Copy>(
-    alloc: A,
-    names: &Names<'_, A>,
+fn plain_name(
+    alloc: Global,
+    names: &Names<'_>,
     act: Act,
-) -> Result<String<A>, AllocError>
+) -> Result<String, AllocError>
     requires numbered { IsTrue (is_numbered 0 names.now.mems.now) }
     ensures { IfOk result (λ name. string_bytes name ≡ plain_name (naming_of names.now) act) }
 {
@@ -67,7 +67,7 @@ fn plain_name<A: Allocator + Copy>(
 }
 
 /// What the notes say that a name stands for, or the name.
-fn told_name<'a, A: Allocator + Copy>(notes: &'a Notes<A>, name: &'a str) -> &'a str
+fn told_name<'a>(notes: &'a Notes, name: &'a str) -> &'a str
     ensures { result.now ≡ unwrap_or (noted_text notes.now name.now) name.now }
 {
     match notes.text_of(name) {
@@ -98,16 +98,16 @@ fn kind_of_act(act: Act) -> &'static str
 }
 
 /// The place of an access in a program's source.
-fn place_of<'a, A: Allocator + Copy>(names: &Names<'a, A>, access: &Access) -> Option<Place<'a>>
+fn place_of<'a>(names: &Names<'a>, access: &Access) -> Option<Place<'a>>
     ensures { option_map place_parts result ≡ place_of (naming_of names.now) access.now }
 {
     names.notes.place_of(access.request.line)
 }
 
 /// Adds the place of an access, or the number of its entry.
-fn put_site<A: Allocator + Copy>(
-    line: &mut String<A>,
-    names: &Names<'_, A>,
+fn put_site(
+    line: &mut String,
+    names: &Names<'_>,
     access: &Access,
 ) -> Result<(), AllocError>
     ensures { OnOk result (string_bytes line.new ≡ string_bytes line.old ++ site_text (place_of (naming_of names.now) access.now) access.now.entry) }
@@ -122,9 +122,9 @@ fn put_site<A: Allocator + Copy>(
 }
 
 /// Adds the line of an access, of what has this name.
-fn put_access<A: Allocator + Copy>(
-    line: &mut String<A>,
-    names: &Names<'_, A>,
+fn put_access(
+    line: &mut String,
+    names: &Names<'_>,
     access: &Access,
     name: &str,
 ) -> Result<(), AllocError>
@@ -139,11 +139,11 @@ fn put_access<A: Allocator + Copy>(
 }
 
 /// The line of an access.
-fn access_line<A: Allocator + Copy>(
-    alloc: A,
-    names: &Names<'_, A>,
+fn access_line(
+    alloc: Global,
+    names: &Names<'_>,
     access: &Access,
-) -> Result<String<A>, AllocError>
+) -> Result<String, AllocError>
     requires numbered { IsTrue (is_numbered 0 names.now.mems.now) }
     ensures { IfOk result (λ line. string_bytes line ≡ access_line (naming_of names.now) access.now) }
 {
@@ -154,7 +154,7 @@ fn access_line<A: Allocator + Copy>(
 }
 
 /// The place of the first access that has one.
-fn first_place<'a, A: Allocator + Copy>(names: &Names<'a, A>, own: &[Access]) -> Option<Place<'a>>
+fn first_place<'a>(names: &Names<'a>, own: &[Access]) -> Option<Place<'a>>
     ensures { option_map place_parts result ≡ first_place (naming_of names.now) own.now }
 {
     for access in own {
@@ -166,11 +166,11 @@ fn first_place<'a, A: Allocator + Copy>(names: &Names<'a, A>, own: &[Access]) ->
 }
 
 /// The first line of a strand whose first place is this.
-fn line_at<A: Allocator>(
-    alloc: A,
+fn line_at(
+    alloc: Global,
     strand: usize,
     place: Option<Place<'_>>,
-) -> Result<String<A>, AllocError>
+) -> Result<String, AllocError>
     ensures { IfOk result (λ line. string_bytes line ≡ decimal strand ++ function_text (option_map place_parts place.entry)) }
 {
     match place {
@@ -185,9 +185,9 @@ fn line_at<A: Allocator>(
 }
 
 /// Adds a line that was made, where there was memory for it.
-fn add_line<A: Allocator>(
-    lines: &mut Vec<String<A>, A>,
-    made: Result<String<A>, AllocError>,
+fn add_line(
+    lines: &mut Vec<String>,
+    made: Result<String, AllocError>,
 ) -> Result<(), AllocError>
     ensures { (line : List ℕ) → IfOk made (λ text. string_bytes text ≡ line) →
         OnOk result (map string_bytes lines.new.items ≡ map string_bytes lines.old.items ++ line ∷ []) }
@@ -197,10 +197,10 @@ fn add_line<A: Allocator>(
 }
 
 /// Adds the lines of accesses.
-fn add_accesses<A: Allocator + Copy>(
-    alloc: A,
-    lines: &mut Vec<String<A>, A>,
-    names: &Names<'_, A>,
+fn add_accesses(
+    alloc: Global,
+    lines: &mut Vec<String>,
+    names: &Names<'_>,
     told: &[Access],
 ) -> Result<(), AllocError>
     requires numbered { IsTrue (is_numbered 0 names.now.mems.now) }
@@ -213,9 +213,9 @@ fn add_accesses<A: Allocator + Copy>(
 }
 
 /// Adds how many accesses are not told.
-fn add_rest<A: Allocator + Copy>(
-    alloc: A,
-    lines: &mut Vec<String<A>, A>,
+fn add_rest(
+    alloc: Global,
+    lines: &mut Vec<String>,
     count: usize,
 ) -> Result<(), AllocError>
     ensures { OnOk result (map string_bytes lines.new.items ≡ map string_bytes lines.old.items ++ rest_lines count) }
@@ -229,10 +229,10 @@ fn add_rest<A: Allocator + Copy>(
 }
 
 /// Adds the lines of a strand with its accesses.
-fn add_lines<A: Allocator + Copy>(
-    alloc: A,
-    lines: &mut Vec<String<A>, A>,
-    names: &Names<'_, A>,
+fn add_lines(
+    alloc: Global,
+    lines: &mut Vec<String>,
+    names: &Names<'_>,
     strand: usize,
     own: &[Access],
 ) -> Result<(), AllocError>
@@ -247,12 +247,12 @@ fn add_lines<A: Allocator + Copy>(
 }
 
 /// The lines of a strand with its accesses.
-pub fn node_lines<A: Allocator + Copy>(
-    alloc: A,
-    names: &Names<'_, A>,
+pub fn node_lines(
+    alloc: Global,
+    names: &Names<'_>,
     strand: usize,
     own: &[Access],
-) -> Result<Vec<String<A>, A>, AllocError>
+) -> Result<Vec<String>, AllocError>
     requires numbered { IsTrue (is_numbered 0 names.now.mems.now) }
     ensures { IfOk result (λ lines. map string_bytes lines.items ≡ node_lines (naming_of names.now) strand own.now) }
 {
@@ -275,12 +275,12 @@ fn rule_of(act: Act, earlier: Kind) -> &'static str
 }
 
 /// What is written beside a race about what has this name.
-fn label_of<A: Allocator + Copy>(
-    alloc: A,
-    names: &Names<'_, A>,
+fn label_of(
+    alloc: Global,
+    names: &Names<'_>,
     race: &Race,
     name: &str,
-) -> Result<String<A>, AllocError>
+) -> Result<String, AllocError>
     requires { name.now ≡ plain_name (naming_of names.now) race.now.request.act }
     ensures { IfOk result (λ label. string_bytes label ≡ race_label (naming_of names.now) race.now) }
 {
@@ -290,11 +290,11 @@ fn label_of<A: Allocator + Copy>(
 }
 
 /// What is written beside a race.
-pub fn race_label<A: Allocator + Copy>(
-    alloc: A,
-    names: &Names<'_, A>,
+pub fn race_label(
+    alloc: Global,
+    names: &Names<'_>,
     race: &Race,
-) -> Result<String<A>, AllocError>
+) -> Result<String, AllocError>
     requires numbered { IsTrue (is_numbered 0 names.now.mems.now) }
     ensures { IfOk result (λ label. string_bytes label ≡ race_label (naming_of names.now) race.now) }
 {

@@ -8,7 +8,7 @@ ghost use Rattle.dag_drawing.specs.Plans.{measures_by, plan_of, plan, last_of, l
 
 use crate::drawing::{Access, Drawing, Edge};
 use crate::labels::{Names, node_lines, own_of};
-use std::alloc::{AllocError, Allocator};
+use std::alloc::{AllocError, Global};
 
 /// The characters of a line that there is room for.
 pub const MOST_CHARACTERS: u16 = 64;
@@ -44,13 +44,13 @@ pub struct Measures {
 }
 
 /// Where the boxes of a picture stand.
-pub struct Layout<A: Allocator> {
+pub struct Layout {
     /// The levels of strands, by their numbers.
-    pub depths: Vec<u32, A>,
+    pub depths: Vec<u32>,
     /// Their columns.
-    pub columns: Vec<u32, A>,
+    pub columns: Vec<u32>,
     /// How many strands stand on each level.
-    pub counts: Vec<u32, A>,
+    pub counts: Vec<u32>,
     /// The most strands of a level.
     pub widest: u32,
     /// The last level.
@@ -59,7 +59,7 @@ pub struct Layout<A: Allocator> {
     pub measures: Measures,
 }
 
-impl<A: Allocator> Drop for Layout<A> {
+impl Drop for Layout {
     fn drop(self) {
         let Layout {
             depths: _,
@@ -102,7 +102,7 @@ fn number_at(numbers: &[u32], at: usize) -> u32
 }
 
 /// Puts a number in its place, where the list has that.
-fn put<A: Allocator>(numbers: &mut Vec<u32, A>, at: usize, number: u32)
+fn put(numbers: &mut Vec<u32>, at: usize, number: u32)
     ensures { numbers.new.items ≡ slice_set numbers.old.items at number }
 {
     if at < numbers.len() {
@@ -111,11 +111,11 @@ fn put<A: Allocator>(numbers: &mut Vec<u32, A>, at: usize, number: u32)
 }
 
 /// The levels of strands, by their numbers: what an edge leads to is on a level below that which it comes from.
-fn depths_of<A: Allocator + Copy>(
-    alloc: A,
+fn depths_of(
+    alloc: Global,
     size: usize,
     edges: &[Edge],
-) -> Result<Vec<u32, A>, AllocError>
+) -> Result<Vec<u32>, AllocError>
     ensures { IfOk result (λ depths. depths.items ≡ depths_by (replicate size 0) edges.now) }
 {
     let mut depths = vec![in alloc; 0u32; size]?;
@@ -128,10 +128,10 @@ fn depths_of<A: Allocator + Copy>(
 }
 
 /// Puts strands behind those of their levels.
-fn add_to_levels<A: Allocator>(
+fn add_to_levels(
     depths: &[u32],
-    counts: &mut Vec<u32, A>,
-    columns: &mut Vec<u32, A>,
+    counts: &mut Vec<u32>,
+    columns: &mut Vec<u32>,
     strands: &[usize],
 )
     ensures counts { counts.new.items ≡ counts_by depths.now counts.old.items strands.now }
@@ -157,7 +157,7 @@ fn greatest(numbers: &[u32]) -> u32
 }
 
 /// The length of the longest line, which is not below this.
-fn longest<A: Allocator>(most: usize, lines: &[String<A>]) -> usize
+fn longest(most: usize, lines: &[String]) -> usize
     ensures { result ≡ longest most (map string_bytes lines.now) }
 {
     let mut most = most;
@@ -177,9 +177,9 @@ struct Sizes {
 }
 
 /// The sizes of what is written of strands.
-fn sizes_of<A: Allocator + Copy>(
-    alloc: A,
-    names: &Names<'_, A>,
+fn sizes_of(
+    alloc: Global,
+    names: &Names<'_>,
     strands: &[usize],
     accesses: &[Access],
 ) -> Result<Sizes, AllocError>
@@ -205,7 +205,7 @@ fn sizes_of<A: Allocator + Copy>(
 }
 
 /// The measures of a picture with boxes of these sizes below a title.
-fn measures_of<A: Allocator>(sizes: Sizes, title: &[String<A>]) -> Measures
+fn measures_of(sizes: Sizes, title: &[String]) -> Measures
     ensures { result ≡ measures_by sizes.length sizes.lines (map string_bytes title.now) }
 {
     let characters = at_most(MOST_CHARACTERS, sizes.length);
@@ -229,11 +229,11 @@ fn last_of(numbers: &[usize]) -> usize
 }
 
 /// Where the boxes of a drawing stand.
-pub fn layout_of<A: Allocator + Copy>(
-    alloc: A,
-    names: &Names<'_, A>,
-    drawing: &Drawing<A>,
-) -> Result<Layout<A>, AllocError>
+pub fn layout_of(
+    alloc: Global,
+    names: &Names<'_>,
+    drawing: &Drawing,
+) -> Result<Layout, AllocError>
     requires numbered { IsTrue (is_numbered 0 names.now.mems.now) }
     ensures { IfOk result (λ layout. plan_of layout ≡ plan (naming_of names.now) drawing.now) }
 {
@@ -265,7 +265,7 @@ fn scale(count: u64, way: u16) -> u64
     count * u64::from(way)
 }
 
-impl<A: Allocator> Layout<A> {
+impl Layout {
     /// The left end of a strand's box, with each level in the middle.
     pub fn left_edge(&self, strand: usize) -> u64
         ensures value { result ≡ left_at (plan_of self.now) strand }

@@ -17,7 +17,7 @@ use crate::plan::{
     Layout, MOST_BOX_LINES, MOST_CHARACTERS, MOST_TITLE_CHARACTERS, MOST_TITLE_LINES, at_most,
     layout_of,
 };
-use std::alloc::{AllocError, Allocator};
+use std::alloc::{AllocError, Global};
 use text_buffers::TextBuilder;
 
 /// What a byte stands as in XML, where not as itself.
@@ -36,7 +36,7 @@ fn xml_word(byte: u8) -> Option<&'static str>
 }
 
 /// Adds bytes as they stand in XML.
-fn push_xml<A: Allocator>(text: &mut TextBuilder<A>, bytes: &[u8])
+fn push_xml(text: &mut TextBuilder, bytes: &[u8])
     ensures { Adds text.old (xml_text bytes.now) text.new }
 {
     for byte in bytes {
@@ -48,7 +48,7 @@ fn push_xml<A: Allocator>(text: &mut TextBuilder<A>, bytes: &[u8])
 }
 
 /// Adds a line, which is cut where it is longer than this.
-fn push_cut<A: Allocator>(text: &mut TextBuilder<A>, most: u16, line: &str)
+fn push_cut(text: &mut TextBuilder, most: u16, line: &str)
     ensures { Adds text.old (cut_text most line.now) text.new }
 {
     let bytes = line.as_bytes();
@@ -62,7 +62,7 @@ fn push_cut<A: Allocator>(text: &mut TextBuilder<A>, most: u16, line: &str)
 }
 
 /// Adds lines, one below the other.
-fn push_lines<A: Allocator>(text: &mut TextBuilder<A>, most: u16, left: u64, lines: &[String<A>])
+fn push_lines(text: &mut TextBuilder, most: u16, left: u64, lines: &[String])
     ensures { Adds text.old (lines_text most left (map string_bytes lines.now)) text.new }
 {
     for line in lines {
@@ -73,7 +73,7 @@ fn push_lines<A: Allocator>(text: &mut TextBuilder<A>, most: u16, left: u64, lin
 }
 
 /// Adds edges.
-fn push_edges<A: Allocator>(text: &mut TextBuilder<A>, layout: &Layout<A>, edges: &[Edge])
+fn push_edges(text: &mut TextBuilder, layout: &Layout, edges: &[Edge])
     ensures { Adds text.old (flat_map (edge_text (plan_of layout.now)) edges.now) text.new }
 {
     for edge in edges {
@@ -97,11 +97,11 @@ fn push_edges<A: Allocator>(text: &mut TextBuilder<A>, layout: &Layout<A>, edges
 }
 
 /// Adds a strand with its accesses.
-fn push_node<A: Allocator + Copy>(
-    alloc: A,
-    text: &mut TextBuilder<A>,
-    layout: &Layout<A>,
-    names: &Names<'_, A>,
+fn push_node(
+    alloc: Global,
+    text: &mut TextBuilder,
+    layout: &Layout,
+    names: &Names<'_>,
     strand: usize,
     own: &[Access],
 )
@@ -126,11 +126,11 @@ fn push_node<A: Allocator + Copy>(
 }
 
 /// Adds strands, each with its own of the accesses.
-fn push_nodes<A: Allocator + Copy>(
-    alloc: A,
-    text: &mut TextBuilder<A>,
-    layout: &Layout<A>,
-    names: &Names<'_, A>,
+fn push_nodes(
+    alloc: Global,
+    text: &mut TextBuilder,
+    layout: &Layout,
+    names: &Names<'_>,
     strands: &[usize],
     accesses: &[Access],
 )
@@ -146,11 +146,11 @@ fn push_nodes<A: Allocator + Copy>(
 }
 
 /// Adds a race, and in the middle of its arc what is written there. The number decides how high the arc rises.
-fn push_race<A: Allocator + Copy>(
-    alloc: A,
-    text: &mut TextBuilder<A>,
-    layout: &Layout<A>,
-    names: &Names<'_, A>,
+fn push_race(
+    alloc: Global,
+    text: &mut TextBuilder,
+    layout: &Layout,
+    names: &Names<'_>,
     number: usize,
     race: &Race,
 )
@@ -190,11 +190,11 @@ fn push_race<A: Allocator + Copy>(
 }
 
 /// Adds races.
-fn push_races<A: Allocator + Copy>(
-    alloc: A,
-    text: &mut TextBuilder<A>,
-    layout: &Layout<A>,
-    names: &Names<'_, A>,
+fn push_races(
+    alloc: Global,
+    text: &mut TextBuilder,
+    layout: &Layout,
+    names: &Names<'_>,
     races: &[Race],
 )
     requires numbered { IsTrue (is_numbered 0 names.now.mems.now) }
@@ -213,7 +213,7 @@ fn style() -> &'static str
 }
 
 /// Adds the head of a picture of this width and height.
-fn push_head<A: Allocator>(text: &mut TextBuilder<A>, width: u64, height: u64)
+fn push_head(text: &mut TextBuilder, width: u64, height: u64)
     ensures { Adds text.old (head_text width height) text.new }
 {
     push_filled(
@@ -225,7 +225,7 @@ fn push_head<A: Allocator>(text: &mut TextBuilder<A>, width: u64, height: u64)
 }
 
 /// Adds what was recorded.
-fn push_title<A: Allocator>(text: &mut TextBuilder<A>, runs: &[String<A>])
+fn push_title(text: &mut TextBuilder, runs: &[String])
     ensures { Adds text.old (title_text (map string_bytes runs.now)) text.new }
 {
     if runs.is_empty() {
@@ -239,11 +239,11 @@ fn push_title<A: Allocator>(text: &mut TextBuilder<A>, runs: &[String<A>])
 
 /// The text of a drawing in SVG: above it what was recorded, a box for each strand, on a level below those that lead to it, a line for
 /// each edge of the dag, and a red arc for each race. Errors where there is no memory.
-pub fn svg_text<A: Allocator + Copy>(
-    alloc: A,
-    names: &Names<'_, A>,
-    drawing: &Drawing<A>,
-) -> Result<Vec<u8, A>, AllocError>
+pub fn svg_text(
+    alloc: Global,
+    names: &Names<'_>,
+    drawing: &Drawing,
+) -> Result<Vec<u8>, AllocError>
     requires numbered { IsTrue (is_numbered 0 names.now.mems.now) }
     ensures { IfOk result (λ text. text.items ≡ svg_text (naming_of names.now) drawing.now) }
 {

@@ -9,19 +9,19 @@ ghost use Rattle.dag_drawing.specs.Walks.{IsLegalHistory, marks_of, blocks_of, I
 use crate::drawing::{Edge, EdgeKind};
 use model_strands::Spawned;
 use race_gate::{Answer, Entry};
-use std::alloc::{AllocError, Allocator};
+use std::alloc::{AllocError, Global};
 
 /// What is known of strands and edges after some entries.
-pub struct Walk<A: Allocator> {
+pub struct Walk {
     /// By the number of a strand or a reserved join, whether it has begun.
-    pub begun: Vec<bool, A>,
+    pub begun: Vec<bool>,
     /// By that number, the join of the innermost block round the strand.
-    pub blocks: Vec<Option<u32>, A>,
+    pub blocks: Vec<Option<u32>>,
     /// The edges, and those that will lead to joins that have not begun.
-    pub edges: Vec<Edge, A>,
+    pub edges: Vec<Edge>,
 }
 
-impl<A: Allocator> Drop for Walk<A> {
+impl Drop for Walk {
     fn drop(self) {
         let Walk {
             begun: _,
@@ -32,7 +32,7 @@ impl<A: Allocator> Drop for Walk<A> {
 }
 
 /// Adds the marks of the strands of a spawn, and that of its join where it opens a block.
-fn add_marks<A: Allocator>(begun: &mut Vec<bool, A>, first: bool) -> Result<(), AllocError>
+fn add_marks(begun: &mut Vec<bool>, first: bool) -> Result<(), AllocError>
     ensures { OnOk result (begun.new.items ≡ begun.old.items ++ marks_of first) }
 {
     if first {
@@ -43,8 +43,8 @@ fn add_marks<A: Allocator>(begun: &mut Vec<bool, A>, first: bool) -> Result<(), 
 }
 
 /// Adds the blocks round the strands of a spawn, and that round its join where it opens a block.
-fn add_blocks<A: Allocator>(
-    blocks: &mut Vec<Option<u32>, A>,
+fn add_blocks(
+    blocks: &mut Vec<Option<u32>>,
     spawned: Spawned,
     outer: Option<u32>,
 ) -> Result<(), AllocError>
@@ -58,9 +58,9 @@ fn add_blocks<A: Allocator>(
     }
 }
 
-impl<A: Allocator + Copy> Walk<A> {
+impl Walk {
     /// What is known before the first entry.
-    fn new(alloc: A) -> Result<Walk<A>, AllocError>
+    fn new(alloc: Global) -> Result<Walk, AllocError>
         ensures begun { IfOk result (λ walk. walk.begun.items ≡ true ∷ []) }
         ensures blocks { IfOk result (λ walk. walk.blocks.items ≡ None ∷ []) }
         ensures edges { IfOk result (λ walk. walk.edges.items ≡ []) }
@@ -155,7 +155,7 @@ impl<A: Allocator + Copy> Walk<A> {
 }
 
 /// What is known after all entries.
-pub fn walk_entries<A: Allocator + Copy>(alloc: A, entries: &[Entry]) -> Result<Walk<A>, AllocError>
+pub fn walk_entries(alloc: Global, entries: &[Entry]) -> Result<Walk, AllocError>
     requires { IsLegalHistory (reverse entries.now) }
     ensures { IfOk result (λ walk. IsWalk walk.begun.items walk.blocks.items walk.edges.items (control_part (reverse entries.now))) }
 {

@@ -39,7 +39,7 @@ runs-append (line ∷ lines) more =
 
 -- ---- lines that are added
 
-pub adds_none : {A : Type 0} (notes : Notes A) → Adds [] notes notes
+pub adds_none : (notes : Notes) → Adds [] notes notes
 adds_none notes = record {
   places = λ mark. sym (or-none _);
   cells = λ cell. sym (or-none _);
@@ -53,7 +53,7 @@ one_more told line lines old between new one rest =
     rest ∙ ap (λ b. option_or b (first told lines)) one ∙ or-assoc old (first told (line ∷ [])) (first told lines)
     ∙ ap (λ f. option_or old (option_or f (first told lines))) (or-none (told line))
 
-pub adds_more : {A : Type 0} (line : List ℕ) (lines : List (List ℕ)) (old between new : Notes A)
+pub adds_more : (line : List ℕ) (lines : List (List ℕ)) (old between new : Notes)
     → Adds (line ∷ []) old between → Adds lines between new → Adds (line ∷ lines) old new
 adds_more line lines old between new one rest = record {
   places = λ mark. one_more (mark_on mark) line lines _ _ _ (one.places mark) (rest.places mark);
@@ -66,7 +66,7 @@ adds_more line lines old between new one rest = record {
 }
 
 -- a line that says nothing
-pub adds_plain : {A : Type 0} (line : List ℕ) (lines : List (List ℕ)) (old new : Notes A)
+pub adds_plain : (line : List ℕ) (lines : List (List ℕ)) (old new : Notes)
     → said_on line ≡ None → Adds lines old new → Adds (line ∷ lines) old new
 adds_plain line lines old new none rest = record {
   places = λ mark. rw none (rest.places mark);
@@ -75,7 +75,7 @@ adds_plain line lines old new none rest = record {
   runs = rw none rest.runs;
 }
 
-pub are_more : {A : Type 0} (lines more : List (List ℕ)) (old new : Notes A) → AreNotes lines old → Adds more old new → AreNotes (lines ++ more) new
+pub are_more : (lines more : List (List ℕ)) (old new : Notes) → AreNotes lines old → Adds more old new → AreNotes (lines ++ more) new
 are_more lines more old new are adds = record {
   places = λ mark. adds.places mark ∙ ap (λ f. option_or f (first (mark_on mark) more)) (are.places mark) ∙ sym (first-append (mark_on mark) lines more);
   cells = λ cell. adds.cells cell ∙ ap (λ f. option_or f (first (cell_on cell) more)) (are.cells cell) ∙ sym (first-append (cell_on cell) lines more);
@@ -85,7 +85,7 @@ are_more lines more old new are adds = record {
 
 -- ---- one line that says something
 
-pub adds_mark : {A : Type 0} (line : List ℕ) (mark : ℕ) (place : List ℕ) (old new : Notes A) → said_on line ≡ Some (OfMark mark place)
+pub adds_mark : (line : List ℕ) (mark : ℕ) (place : List ℕ) (old new : Notes) → said_on line ≡ Some (OfMark mark place)
     → ((other : ℕ) → place_in new.places other ≡ option_or (place_in old.places other) (cond (mark == other) (Some place) None))
     → new.cells ≡ old.cells → new.memories ≡ old.memories → new.runs ≡ old.runs → Adds (line ∷ []) old new
 adds_mark line mark place old new says put cells memories runs = record {
@@ -95,7 +95,7 @@ adds_mark line mark place old new says put cells memories runs = record {
   runs = rw (says, append-nil) (ap (λ texts. map string_bytes texts.items) runs);
 }
 
-pub adds_cell : {A : Type 0} (line cell text : List ℕ) (old new : Notes A) → said_on line ≡ Some (OfCell cell text)
+pub adds_cell : (line cell text : List ℕ) (old new : Notes) → said_on line ≡ Some (OfCell cell text)
     → ((other : List ℕ) → text_in new.cells other ≡ option_or (text_in old.cells other) (cond (bytes_eq cell other) (Some text) None))
     → new.places ≡ old.places → new.memories ≡ old.memories → new.runs ≡ old.runs → Adds (line ∷ []) old new
 adds_cell line cell text old new says put places memories runs = record {
@@ -105,7 +105,7 @@ adds_cell line cell text old new says put places memories runs = record {
   runs = rw (says, append-nil) (ap (λ texts. map string_bytes texts.items) runs);
 }
 
-pub adds_memory : {A : Type 0} (line name text : List ℕ) (old new : Notes A) → said_on line ≡ Some (OfMemory name text)
+pub adds_memory : (line name text : List ℕ) (old new : Notes) → said_on line ≡ Some (OfMemory name text)
     → ((other : List ℕ) → text_in new.memories other ≡ option_or (text_in old.memories other) (cond (bytes_eq name other) (Some text) None))
     → new.places ≡ old.places → new.cells ≡ old.cells → new.runs ≡ old.runs → Adds (line ∷ []) old new
 adds_memory line name text old new says put places cells runs = record {
@@ -115,7 +115,7 @@ adds_memory line name text old new says put places cells runs = record {
   runs = rw (says, append-nil) (ap (λ texts. map string_bytes texts.items) runs);
 }
 
-pub adds_run : {A : Type 0} (line text : List ℕ) (old new : Notes A) → said_on line ≡ Some (OfRun text)
+pub adds_run : (line text : List ℕ) (old new : Notes) → said_on line ≡ Some (OfRun text)
     → map string_bytes new.runs.items ≡ map string_bytes old.runs.items ++ text ∷ []
     → new.places ≡ old.places → new.cells ≡ old.cells → new.memories ≡ old.memories → Adds (line ∷ []) old new
 adds_run line text old new says put places cells memories = record {
@@ -125,7 +125,7 @@ adds_run line text old new says put places cells memories = record {
   runs = rw says put;
 }
 
-pub adds_nothing : {A : Type 0} (line : List ℕ) (notes : Notes A) → said_on line ≡ None → Adds (line ∷ []) notes notes
+pub adds_nothing : (line : List ℕ) (notes : Notes) → said_on line ≡ None → Adds (line ∷ []) notes notes
 adds_nothing line notes says = adds_plain line [] notes notes says (adds_none notes)
 
 -- ---- the lines of a text, one by one
@@ -133,18 +133,18 @@ adds_nothing line notes says = adds_plain line [] notes notes says (adds_none no
 lines_next : (rest line behind : List ℕ) → pieces rest ≡ line ∷ pieces behind → lines rest ≡ strip_carriage_return line ∷ lines behind
 lines_next rest line behind e = ap (map strip_carriage_return) e
 
-pub next_adds : {A : Type 0} (rest line behind cut : List ℕ) (old now last : Notes A) → pieces rest ≡ line ∷ pieces behind
+pub next_adds : (rest line behind cut : List ℕ) (old now last : Notes) → pieces rest ≡ line ∷ pieces behind
     → cut ≡ strip_carriage_return line → Adds (cut ∷ []) old now → Adds (lines behind) now last → Adds (lines rest) old last
 next_adds rest line behind cut old now last e stripped one adds =
     let e' : lines rest ≡ cut ∷ lines behind = lines_next rest line behind e ∙ ap (λ l. l ∷ lines behind) (sym stripped) in
     rw e' (adds_more cut (lines behind) old now last one adds)
 
-pub next_plain : {A : Type 0} (rest line behind cut : List ℕ) (old last : Notes A) → pieces rest ≡ line ∷ pieces behind
+pub next_plain : (rest line behind cut : List ℕ) (old last : Notes) → pieces rest ≡ line ∷ pieces behind
     → cut ≡ strip_carriage_return line → is_comment cut ≡ false → Adds (lines behind) old last → Adds (lines rest) old last
 next_plain rest line behind cut old last e stripped none adds =
     let e' : lines rest ≡ cut ∷ lines behind = lines_next rest line behind e ∙ ap (λ l. l ∷ lines behind) (sym stripped) in
     rw e' (adds_plain cut (lines behind) old last (plain_line cut none) adds)
 
-pub no_more : {A : Type 0} (rest : List ℕ) (notes : Notes A) → (length rest == 0) ≡ true → Adds (lines rest) notes notes
+pub no_more : (rest : List ℕ) (notes : Notes) → (length rest == 0) ≡ true → Adds (lines rest) notes notes
 no_more [] notes none = adds_none notes
 no_more (byte ∷ bytes) notes none = absurd (grind (arith, nat_tests))

@@ -67,34 +67,34 @@ place_in places mark = option_map string_bytes (get nat_cmp places mark)
 abbrev pub text_in : {A : Type 0} → BTreeMap (String A) (String A) → List ℕ → Option (List ℕ)
 text_in texts name = option_map string_bytes (get_by_text texts name)
 
-abbrev pub kept_place : {A : Type 0} → Notes A → ℕ → Option (List ℕ)
+abbrev pub kept_place : Notes → ℕ → Option (List ℕ)
 kept_place notes mark = place_in notes.places mark
 
-abbrev pub kept_cell : {A : Type 0} → Notes A → List ℕ → Option (List ℕ)
+abbrev pub kept_cell : Notes → List ℕ → Option (List ℕ)
 kept_cell notes cell = text_in notes.cells cell
 
-abbrev pub kept_memory : {A : Type 0} → Notes A → List ℕ → Option (List ℕ)
+abbrev pub kept_memory : Notes → List ℕ → Option (List ℕ)
 kept_memory notes name = text_in notes.memories name
 
-abbrev pub kept_runs : {A : Type 0} → Notes A → List (List ℕ)
+abbrev pub kept_runs : Notes → List (List ℕ)
 kept_runs notes = map string_bytes notes.runs.items
 
 -- The place of a mark by what is kept, and the text of a cell.
-abbrev pub noted_place : {A : Type 0} → Notes A → ℕ → Option PlaceParts
+abbrev pub noted_place : Notes → ℕ → Option PlaceParts
 noted_place notes mark = option_and_then split_place (kept_place notes mark)
 
-abbrev pub noted_text : {A : Type 0} → Notes A → List ℕ → Option (List ℕ)
+abbrev pub noted_text : Notes → List ℕ → Option (List ℕ)
 noted_text notes cell = option_or (kept_cell notes cell) (kept_memory notes (memory_of cell))
 
 -- They are the notes of these lines.
-pub record AreNotes {A : Type 0} (lines : List (List ℕ)) (notes : Notes A) : Type 0 where
+pub record AreNotes (lines : List (List ℕ)) (notes : Notes) : Type 0 where
   pub places : (mark : ℕ) → kept_place notes mark ≡ first (mark_on mark) lines
   pub cells : (cell : List ℕ) → kept_cell notes cell ≡ first (cell_on cell) lines
   pub memories : (name : List ℕ) → kept_memory notes name ≡ first (memory_on name) lines
   pub runs : kept_runs notes ≡ runs_told lines
 
 -- The notes of these lines were added.
-pub record Adds {A : Type 0} (lines : List (List ℕ)) (old new : Notes A) : Type 0 where
+pub record Adds (lines : List (List ℕ)) (old new : Notes) : Type 0 where
   pub places : (mark : ℕ) → kept_place new mark ≡ option_or (kept_place old mark) (first (mark_on mark) lines)
   pub cells : (cell : List ℕ) → kept_cell new cell ≡ option_or (kept_cell old cell) (first (cell_on cell) lines)
   pub memories : (name : List ℕ) → kept_memory new name ≡ option_or (kept_memory old name) (first (memory_on name) lines)

@@ -9,21 +9,21 @@ ghost use Rattle.trace_notes.specs.Notes.{place_told, text_told, runs_told, plac
 
 use crate::line::{Note, is_comment, note_on};
 use crate::place::{Place, split_place};
-use std::alloc::{AllocError, Allocator};
+use std::alloc::{AllocError, Global};
 use std::collections::BTreeMap;
 use text_words::{split_line, without_return};
 
 /// The notes of the texts that were read. They are copied, so the texts need not be kept.
-pub struct Notes<A: Allocator> {
-    alloc: A,
-    places: BTreeMap<u32, String<A>, A>,
-    cells: BTreeMap<String<A>, String<A>, A>,
-    memories: BTreeMap<String<A>, String<A>, A>,
-    runs: Vec<String<A>, A>,
+pub struct Notes {
+    alloc: Global,
+    places: BTreeMap<u32, String>,
+    cells: BTreeMap<String, String>,
+    memories: BTreeMap<String, String>,
+    runs: Vec<String>,
 }
 
 /// Written out, so that what lets it go calls one function.
-impl<A: Allocator> Drop for Notes<A> {
+impl Drop for Notes {
     fn drop(self) {
         let Notes {
             alloc: _,
@@ -36,9 +36,9 @@ impl<A: Allocator> Drop for Notes<A> {
 }
 
 /// Adds a text under a number, unless there is one.
-fn add_first<A: Allocator + Copy>(
-    alloc: A,
-    places: &mut BTreeMap<u32, String<A>, A>,
+fn add_first(
+    alloc: Global,
+    places: &mut BTreeMap<u32, String>,
     mark: u32,
     text: &str,
 ) -> Result<(), AllocError>
@@ -51,9 +51,9 @@ fn add_first<A: Allocator + Copy>(
 }
 
 /// Adds a text under a name, unless there is one.
-fn add_first_named<A: Allocator + Copy>(
-    alloc: A,
-    texts: &mut BTreeMap<String<A>, String<A>, A>,
+fn add_first_named(
+    alloc: Global,
+    texts: &mut BTreeMap<String, String>,
     name: &str,
     text: &str,
 ) -> Result<(), AllocError>
@@ -67,9 +67,9 @@ fn add_first_named<A: Allocator + Copy>(
 }
 
 /// Adds a text.
-fn add_last<A: Allocator + Copy>(
-    alloc: A,
-    texts: &mut Vec<String<A>, A>,
+fn add_last(
+    alloc: Global,
+    texts: &mut Vec<String>,
     text: &str,
 ) -> Result<(), AllocError>
     ensures { OnOk result (map string_bytes texts.new.items ≡ map string_bytes texts.old.items ++ text.now ∷ []) }
@@ -79,8 +79,8 @@ fn add_last<A: Allocator + Copy>(
 }
 
 /// The text under a name.
-fn find_text<'b, A: Allocator + Copy>(
-    texts: &'b BTreeMap<String<A>, String<A>, A>,
+fn find_text<'b>(
+    texts: &'b BTreeMap<String, String>,
     name: &str,
 ) -> Option<&'b str>
     ensures { option_map (λ text. text.now) result ≡ text_in texts.now name.now }
@@ -101,9 +101,9 @@ fn memory_of(cell: &str) -> &str
     }
 }
 
-impl<A: Allocator + Copy> Notes<A> {
+impl Notes {
     /// No notes yet.
-    pub fn new(alloc: A) -> Notes<A>
+    pub fn new(alloc: Global) -> Notes
         ensures { AreNotes [] result }
     {
         Notes {
@@ -180,7 +180,7 @@ impl<A: Allocator + Copy> Notes<A> {
     }
 
     /// What was recorded, in the order of the notes that say it.
-    pub fn runs(&self) -> &[String<A>]
+    pub fn runs(&self) -> &[String]
         ensures noted { map string_bytes result.now ≡ kept_runs self.now }
         ensures told { (lines : List (List ℕ)) → AreNotes lines self.now → map string_bytes result.now ≡ runs_told lines }
     {

@@ -3,7 +3,7 @@ use Rattle.dag_drawing.proofs.Pushed.{text_built}
 use Rattle.dag_drawing.proofs.dot.dot_text.Goals as goal
 
 pub returns : goal.returns
-returns g c =
+returns c =
     text_built c.end.result (λ text. text.items) _ _ _ c.new-text.ensures
     (two_adds _ _ _ _ _
     (five_adds _ _ _ _ _ _ _ _ _ _ _ c.push_words.ensures (rw c.runs.ensures.noted at c.push_heading.ensures)

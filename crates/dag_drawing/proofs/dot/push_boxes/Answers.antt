@@ -7,12 +7,12 @@ use Rattle.dag_drawing.proofs.Pushed.{one_part, no_part_left}
 use Rattle.dag_drawing.proofs.dot.push_boxes.Goals as goal
 
 pub loop-strand-init : goal.loop-strand-init
-loop-strand-init g c = λ end adds. adds
+loop-strand-init c = λ end adds. adds
 
 pub loop-strand-preserved : goal.loop-strand-preserved
-loop-strand-preserved g c =
+loop-strand-preserved c =
     one_part _ _ _ _ _ _ _ (grind (arith, common_steps)) c.loop-strand.invariant
     c.push_box.ensures
 
 pub returns : goal.returns
-returns g c = no_part_left _ _ _ _ (ap (λ rest. boxes_text (naming_of c.args.names.now) rest c.loop-strand.rest.now) (drop_all _ _ c.loop-strand-test.false)) c.loop-strand.invariant
+returns c = no_part_left _ _ _ _ (ap (λ rest. boxes_text (naming_of c.args.names.now) rest c.loop-strand.rest.now) (drop_all _ _ c.loop-strand-test.false)) c.loop-strand.invariant

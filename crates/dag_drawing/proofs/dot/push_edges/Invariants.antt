@@ -6,4 +6,4 @@ use Rattle.dag_drawing.proofs.dot.push_edges.Given as goal
 
 -- with what is left behind what is written, the whole is added
 abbrev pub invariant-loop-edge : goal.invariant-loop-edge
-invariant-loop-edge g l = Completes l.initial.text l.text (flat_map edge_text (drop l.edge-index l.edges)) (flat_map edge_text l.edges)
+invariant-loop-edge l = Completes l.initial.text l.text (flat_map edge_text (drop l.edge-index l.edges)) (flat_map edge_text l.edges)

@@ -6,13 +6,13 @@ use Rattle.dag_drawing.proofs.Pushed.{one_part, no_part_left}
 use Rattle.dag_drawing.proofs.dot.push_escaped.Goals as goal
 
 pub loop-byte-init : goal.loop-byte-init
-loop-byte-init g c = λ end adds. adds
+loop-byte-init c = λ end adds. adds
 
 pub loop-byte-preserved : goal.loop-byte-preserved
-loop-byte-preserved g c =
+loop-byte-preserved c =
     one_part _ _ _ _ _ _ _ (grind (arith, common_steps)) c.loop-byte.invariant
     c.push_escape.ensures
 
 pub returns : goal.returns
-returns g c =
+returns c =
     rw c.as_bytes-byte-items.ensures.value at (no_part_left _ _ _ _ (ap escaped (drop_all _ _ c.loop-byte-test.false)) c.loop-byte.invariant)

@@ -8,12 +8,12 @@ use Rattle.dag_drawing.proofs.Pushed.{one_part, no_part_left}
 use Rattle.dag_drawing.proofs.dot.push_races.Goals as goal
 
 pub loop-race-init : goal.loop-race-init
-loop-race-init g c = λ end adds. adds
+loop-race-init c = λ end adds. adds
 
 pub loop-race-preserved : goal.loop-race-preserved
-loop-race-preserved g c =
+loop-race-preserved c =
     one_part _ _ _ _ _ _ _ (grind (arith, common_steps)) c.loop-race.invariant
     c.push_race.ensures
 
 pub returns : goal.returns
-returns g c = no_part_left _ _ _ _ (ap (flat_map (arc_text (naming_of c.args.names.now))) (drop_all _ _ c.loop-race-test.false)) c.loop-race.invariant
+returns c = no_part_left _ _ _ _ (ap (flat_map (arc_text (naming_of c.args.names.now))) (drop_all _ _ c.loop-race-test.false)) c.loop-race.invariant

@@ -7,4 +7,4 @@ use Rattle.dag_drawing.proofs.dot.push_races.Given as goal
 
 -- with what is left behind what is written, the whole is added
 abbrev pub invariant-loop-race : goal.invariant-loop-race
-invariant-loop-race g l = Completes l.initial.text l.text (flat_map (arc_text (naming_of l.names)) (drop l.race-index l.races)) (flat_map (arc_text (naming_of l.names)) l.races)
+invariant-loop-race l = Completes l.initial.text l.text (flat_map (arc_text (naming_of l.names)) (drop l.race-index l.races)) (flat_map (arc_text (naming_of l.names)) l.races)

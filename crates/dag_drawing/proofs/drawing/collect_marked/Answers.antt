@@ -7,10 +7,10 @@ use Rattle.dag_drawing.proofs.drawing.collect_marked.Goals.{then-begun+in_ok-pus
 use Rattle.dag_drawing.proofs.drawing.collect_marked.Goals as goal
 
 pub loop-strand-preserved : goal.loop-strand-preserved
-loop-strand-preserved g c = elim c.if-begun.branch [
+loop-strand-preserved c = elim c.if-begun.branch [
   | then-begun+in_ok-push w ↦ grind (arith, common_steps, marked_here)
   | else-begun w ↦ grind (arith, common_steps, marked_later)
 ]
 
 pub returns : goal.returns
-returns g c = at_end (marked_from c.loop-strand.strand) _ _ _ _ refl c.loop-strand-test.false c.loop-strand.invariant
+returns c = at_end (marked_from c.loop-strand.strand) _ _ _ _ refl c.loop-strand-test.false c.loop-strand.invariant

@@ -6,7 +6,7 @@ use Rattle.dag_drawing.proofs.Loops.{at_end}
 use Rattle.dag_drawing.proofs.drawing.edges_to.Goals as goal
 
 pub loop-edge-preserved : goal.loop-edge-preserved
-loop-edge-preserved g c = grind (arith, common_steps)
+loop-edge-preserved c = grind (arith, common_steps)
 
 pub returns : goal.returns
-returns g c = at_end (filter (has_mark c.args.marks.now)) _ _ _ _ refl c.loop-edge-test.false c.loop-edge.invariant
+returns c = at_end (filter (has_mark c.args.marks.now)) _ _ _ _ refl c.loop-edge-test.false c.loop-edge.invariant

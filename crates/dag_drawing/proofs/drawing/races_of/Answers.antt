@@ -5,7 +5,7 @@ use Rattle.dag_drawing.proofs.Loops.{at_end}
 use Rattle.dag_drawing.proofs.drawing.races_of.Goals as goal
 
 pub loop-before-preserved : goal.loop-before-preserved
-loop-before-preserved g c = grind (arith, common_steps)
+loop-before-preserved c = grind (arith, common_steps)
 
 pub returns : goal.returns
-returns g c = at_end (races_behind c.loop-before.before) _ _ _ _ refl c.loop-before-test.false c.loop-before.invariant
+returns c = at_end (races_behind c.loop-before.before) _ _ _ _ refl c.loop-before-test.false c.loop-before.invariant

@@ -4,4 +4,4 @@ use Rattle.dag_drawing.proofs.drawing.races_of.Given as goal
 
 -- those so far and those among the entries that are left are all of them
 abbrev pub invariant-loop-before : goal.invariant-loop-before
-invariant-loop-before g l = l.found.items ++ races_behind l.before (drop l.before l.entries) ≡ races_told l.entries
+invariant-loop-before l = l.found.items ++ races_behind l.before (drop l.before l.entries) ≡ races_told l.entries

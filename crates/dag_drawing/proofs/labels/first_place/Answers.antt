@@ -4,7 +4,7 @@ use Rattle.dag_drawing.proofs.FirstPlaces.{place_here, place_later}
 use Rattle.dag_drawing.proofs.labels.first_place.Goals as goal
 
 pub returns-in-Some : goal.returns-in-Some
-returns-in-Some g c = grind (arith, common_steps, place_here)
+returns-in-Some c = grind (arith, common_steps, place_here)
 
 pub loop-access-preserved : goal.loop-access-preserved
-loop-access-preserved g c = grind (arith, common_steps, place_later)
+loop-access-preserved c = grind (arith, common_steps, place_later)

@@ -4,7 +4,7 @@ use Rattle.std.specs.Prelude.{codes, string_bytes}
 use Rattle.dag_drawing.proofs.labels.label_of.Goals as goal
 
 pub returns : goal.returns
-returns g c =
+returns c =
     IfOk-weaker c.format.result _ _
     (λ label is.
     let written : string_bytes label ≡ c.rule_of-rule.result.now ++ (codes " on " ++ c.told_name-told.result.now) = is in

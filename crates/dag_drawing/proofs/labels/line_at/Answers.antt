@@ -10,7 +10,7 @@ use Rattle.dag_drawing.proofs.labels.line_at.Goals as goal
 use Rattle.dag_drawing.proofs.labels.line_at.Goals.{in_default-via-in-Some+in_default, in_default-via-in_default}
 
 pub returns-in_default : goal.returns-in_default
-returns-in_default g c =
+returns-in_default c =
     let none : function_text (option_map place_parts c.args.place) ≡ [] =
     elim c.in_default.branch [ in_default-via-in-Some+in_default w ↦ first_of (search rules, grind (arith, common_steps)) | in_default-via-in_default w ↦ first_of (search rules, grind (arith, common_steps)) ] in
     IfOk-weaker c.format-in_default.result _ _

@@ -4,4 +4,4 @@ use Rattle.dag_drawing.proofs.labels.place_of.Goals as goal
 
 pub returns : goal.returns
 unfolding place_of
-returns g c = search rules
+returns c = search rules

@@ -5,4 +5,4 @@ use Rattle.dag_drawing.proofs.plan.longest.Given as goal
 
 -- the longest of these and of those that are left is that of all
 abbrev pub invariant-loop-line : goal.invariant-loop-line
-invariant-loop-line g l = longest l.most (map string_bytes (drop l.line-index l.lines)) ≡ longest l.initial.most (map string_bytes l.lines)
+invariant-loop-line l = longest l.most (map string_bytes (drop l.line-index l.lines)) ≡ longest l.initial.most (map string_bytes l.lines)

@@ -6,13 +6,13 @@ use Rattle.dag_drawing.proofs.Loops.{at_last}
 use Rattle.dag_drawing.proofs.plan.sizes_of.Goals as goal
 
 pub loop-strand-preserved : goal.loop-strand-preserved
-loop-strand-preserved g c = grind (arith, common_steps)
+loop-strand-preserved c = grind (arith, common_steps)
 
 pub loop-strand-init : goal.loop-strand-init
-loop-strand-init g c = (refl, refl)
+loop-strand-init c = (refl, refl)
 
 pub returns : goal.returns
-returns g c = record {
+returns c = record {
   length =
       at_last (λ rest. longest_line (naming_of c.args.names.now) c.loop-strand.sizes.length rest c.loop-strand.rest.now) _ _ _ c.loop-strand-test.false
       c.loop-strand.invariant.0;

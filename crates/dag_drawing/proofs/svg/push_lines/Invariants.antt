@@ -6,4 +6,4 @@ use Rattle.dag_drawing.proofs.svg.push_lines.Given as goal
 
 -- with what is left behind what is written, the whole is added
 abbrev pub invariant-loop-line : goal.invariant-loop-line
-invariant-loop-line g l = Completes l.initial.text l.text (lines_text l.most l.left (map string_bytes (drop l.line-index l.lines))) (lines_text l.most l.left (map string_bytes l.lines))
+invariant-loop-line l = Completes l.initial.text l.text (lines_text l.most l.left (map string_bytes (drop l.line-index l.lines))) (lines_text l.most l.left (map string_bytes l.lines))

@@ -8,7 +8,7 @@ use Rattle.dag_drawing.proofs.svg.push_node.Goals as goal
 
 pub returns : goal.returns
 unfolding rect_text node_text
-returns g c =
+returns c =
     three_adds _ _ _ _ _ _ _
     (these _ _ _ _
     (rw (

@@ -7,4 +7,4 @@ use Rattle.dag_drawing.proofs.svg.push_nodes.Given as goal
 
 -- with what is left behind what is written, the whole is added
 abbrev pub invariant-loop-strand : goal.invariant-loop-strand
-invariant-loop-strand g l = Completes l.initial.text l.text (nodes_text (plan_of l.layout) (naming_of l.names) (drop l.strand-index l.strands) l.rest) (nodes_text (plan_of l.layout) (naming_of l.names) l.strands l.initial.rest)
+invariant-loop-strand l = Completes l.initial.text l.text (nodes_text (plan_of l.layout) (naming_of l.names) (drop l.strand-index l.strands) l.rest) (nodes_text (plan_of l.layout) (naming_of l.names) l.strands l.initial.rest)

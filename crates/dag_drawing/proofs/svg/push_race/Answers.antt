@@ -6,7 +6,7 @@ use Rattle.dag_drawing.proofs.svg.push_race.Goals as goal
 
 pub returns : goal.returns
 unfolding ends_text curve_text arc_text label_text race_text
-returns g c =
+returns c =
     these _ _ _ _
     (three_adds _ _ _ _ _ _ _
     (rw (

@@ -7,4 +7,4 @@ use Rattle.dag_drawing.proofs.svg.push_races.Given as goal
 
 -- with what is left behind what is written, the whole is added
 abbrev pub invariant-loop-number : goal.invariant-loop-number
-invariant-loop-number g l = Completes l.initial.text l.text (races_text (plan_of l.layout) (naming_of l.names) l.number (drop l.number l.races)) (races_text (plan_of l.layout) (naming_of l.names) 0 l.races)
+invariant-loop-number l = Completes l.initial.text l.text (races_text (plan_of l.layout) (naming_of l.names) l.number (drop l.number l.races)) (races_text (plan_of l.layout) (naming_of l.names) 0 l.races)

@@ -5,7 +5,7 @@ use Rattle.dag_drawing.proofs.Pushed.{no_part_left}
 use Rattle.dag_drawing.proofs.svg.push_xml.Goals as goal
 
 pub loop-byte-init : goal.loop-byte-init
-loop-byte-init g c = λ end adds. adds
+loop-byte-init c = λ end adds. adds
 
 pub returns : goal.returns
-returns g c = no_part_left _ _ _ _ (ap (xml_text) (drop_all _ _ c.loop-byte-test.false)) c.loop-byte.invariant
+returns c = no_part_left _ _ _ _ (ap (xml_text) (drop_all _ _ c.loop-byte-test.false)) c.loop-byte.invariant

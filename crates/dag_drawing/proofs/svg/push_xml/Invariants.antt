@@ -5,4 +5,4 @@ use Rattle.dag_drawing.proofs.svg.push_xml.Given as goal
 
 -- with what is left behind what is written, the whole is added
 abbrev pub invariant-loop-byte : goal.invariant-loop-byte
-invariant-loop-byte g l = Completes l.initial.text l.text (xml_text (drop l.byte-index l.bytes)) (xml_text l.bytes)
+invariant-loop-byte l = Completes l.initial.text l.text (xml_text (drop l.byte-index l.bytes)) (xml_text l.bytes)

@@ -3,7 +3,7 @@ use Rattle.dag_drawing.proofs.Pushed.{head_same, planned, text_built}
 use Rattle.dag_drawing.proofs.svg.svg_text.Goals as goal
 
 pub returns : goal.returns
-returns g c =
+returns c =
     text_built c.end.result (λ text. text.items) _ _ _ c.new-text.ensures
     (planned _ _ _ _ _ c.args.drawing.now c.in_ok-layout.ensures (two_adds _ _ _ _ _
     (five_adds _ _ _ _ _ _ _ _ _ _ _ (these _ _ _ _ c.push_head.ensures (head_same _ _ _ _ c.width.ensures c.height.ensures))

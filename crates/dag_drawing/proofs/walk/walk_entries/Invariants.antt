@@ -5,4 +5,4 @@ use Rattle.dag_drawing.proofs.walk.walk_entries.Given as goal
 
 -- what is known of the entries so far
 abbrev pub invariant-loop-before : goal.invariant-loop-before
-invariant-loop-before g l = IsWalk l.walk.begun.items l.walk.blocks.items l.walk.edges.items (control_part (reverse (take l.before l.entries)))
+invariant-loop-before l = IsWalk l.walk.begun.items l.walk.blocks.items l.walk.edges.items (control_part (reverse (take l.before l.entries)))
