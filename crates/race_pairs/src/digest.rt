@@ -24,7 +24,7 @@ pub struct Digest {
     /// The line of each entry.
     pub lines: Vec<u32>,
     /// The spawns and calls.
-    pub lineage: Lineage<Global>,
+    pub lineage: Lineage,
     /// How many entries are refusals.
     pub refusals: usize,
     races: Races,

@@ -76,7 +76,7 @@ fn way_of(opener: Opener) -> Way
 }
 
 /// How the spawn or call with this number came to a function.
-fn way_at(lineage: &Lineage<Global>, number: usize) -> Way
+fn way_at(lineage: &Lineage, number: usize) -> Way
     requires { IsSomeLineage lineage.now }
     ensures { (told : List Entry) → IsLineageOf lineage.now told → result ≡ way_at told number }
 {
@@ -89,7 +89,7 @@ fn way_at(lineage: &Lineage<Global>, number: usize) -> Way
 /// Spawns and calls by their numbers.
 fn links_at(
     alloc: Global,
-    lineage: &Lineage<Global>,
+    lineage: &Lineage,
     numbers: &[usize],
 ) -> Result<Vec<Link>, AllocError>
     requires { IsSomeLineage lineage.now }

@@ -6,7 +6,7 @@ ghost use Rattle.race_pairs.specs.Frames.{frames};
 ghost use Rattle.race_pairs.specs.Lineages.{Encloses, IsNumberAt, Begins, AreKept, AreSomeKept};
 
 use crate::kept::{Frame, Strand, Turn};
-use std::alloc::{AllocError, Allocator};
+use std::alloc::{AllocError, Global};
 
 /// The place of the frame in which a strand begins.
 pub(crate) fn first_place(opened: &[Frame], strand: u32, maker: u32) -> u32
@@ -76,11 +76,11 @@ pub(crate) fn place_before(
 }
 
 /// The numbers of the openers of the frame at a place and of those round it, the innermost first. Errors where there is no memory.
-pub(crate) fn numbers_from<A: Allocator>(
-    alloc: A,
+pub(crate) fn numbers_from(
+    alloc: Global,
     opened: &[Frame],
     place: u32,
-) -> Result<Vec<usize, A>, AllocError>
+) -> Result<Vec<usize>, AllocError>
     requires { (numbers : List ℕ) × Encloses opened.now place numbers }
     ensures { IfOk result (λ found. (numbers : List ℕ) → Encloses opened.now place numbers → found.items ≡ numbers) }
 {

@@ -15,7 +15,7 @@ use crate::kept::{Frame, Opener, Strand, Turn};
 use model_accesses::Act;
 use model_strands::Spawned;
 use race_gate::{Answer, Entry};
-use std::alloc::{AllocError, Allocator};
+use std::alloc::AllocError;
 
 /// What an entry adds to a lineage.
 #[derive(Clone, Copy)]
@@ -43,8 +43,8 @@ pub(crate) fn step_of(entry: Entry) -> Step
 }
 
 /// Adds the frame that an opener opens where its strand stands, and tells the frame's place.
-fn add_frame<A: Allocator>(
-    opened: &mut Vec<Frame, A>,
+fn add_frame(
+    opened: &mut Vec<Frame>,
     turns: &[Turn],
     strands: &[Strand],
     opener: Opener,
@@ -59,8 +59,8 @@ fn add_frame<A: Allocator>(
 }
 
 /// Adds the strands that the spawn of the frame at a place makes: three where it opens a block, else two.
-fn add_strands<A: Allocator>(
-    strands: &mut Vec<Strand, A>,
+fn add_strands(
+    strands: &mut Vec<Strand>,
     maker: u32,
     opens: bool,
 ) -> Result<(), AllocError>
@@ -76,9 +76,9 @@ fn add_strands<A: Allocator>(
 }
 
 /// Adds a turn of a strand into the frame at a place.
-fn add_turn<A: Allocator>(
-    turns: &mut Vec<Turn, A>,
-    strands: &mut Vec<Strand, A>,
+fn add_turn(
+    turns: &mut Vec<Turn>,
+    strands: &mut Vec<Strand>,
     strand: u32,
     number: u32,
     frame: u32,
@@ -114,10 +114,10 @@ fn outer_of(opened: &[Frame], place: u32) -> u32
 }
 
 /// Adds the spawn with this number.
-pub(crate) fn add_spawn<A: Allocator>(
-    opened: &mut Vec<Frame, A>,
+pub(crate) fn add_spawn(
+    opened: &mut Vec<Frame>,
     turns: &[Turn],
-    strands: &mut Vec<Strand, A>,
+    strands: &mut Vec<Strand>,
     number: u32,
     spawner: u32,
     spawned: Spawned,
@@ -137,10 +137,10 @@ pub(crate) fn add_spawn<A: Allocator>(
 }
 
 /// Adds the call with this number.
-pub(crate) fn add_call<A: Allocator>(
-    opened: &mut Vec<Frame, A>,
-    turns: &mut Vec<Turn, A>,
-    strands: &mut Vec<Strand, A>,
+pub(crate) fn add_call(
+    opened: &mut Vec<Frame>,
+    turns: &mut Vec<Turn>,
+    strands: &mut Vec<Strand>,
     number: u32,
     strand: u32,
 ) -> Result<(), AllocError>
@@ -159,10 +159,10 @@ pub(crate) fn add_call<A: Allocator>(
 }
 
 /// Adds the return with this number, by which a strand goes on in the caller.
-pub(crate) fn add_return<A: Allocator>(
+pub(crate) fn add_return(
     opened: &[Frame],
-    turns: &mut Vec<Turn, A>,
-    strands: &mut Vec<Strand, A>,
+    turns: &mut Vec<Turn>,
+    strands: &mut Vec<Strand>,
     number: u32,
     strand: u32,
 ) -> Result<(), AllocError>

@@ -9,7 +9,7 @@ ghost use Rattle.race_pairs.specs.Jumps.{IsUp, AreRaised, CanRaise, IsJumpOf, ju
 
 use crate::kept::Jump;
 use model_strands::Spawned;
-use std::alloc::{AllocError, Allocator};
+use std::alloc::AllocError;
 
 /// Where the strands jump to that a strand spawns: to where its jump jumps, where both jumps pass equally many strands, and else to the
 /// strand itself.
@@ -38,8 +38,8 @@ fn jump_of(jumps: &[Jump], spawner: u32) -> Jump
 }
 
 /// Adds the jump of the strands that a spawn makes: three where it opens a block, else two.
-fn push_jumps<A: Allocator>(
-    jumps: &mut Vec<Jump, A>,
+fn push_jumps(
+    jumps: &mut Vec<Jump>,
     made: Jump,
     opens: bool,
 ) -> Result<(), AllocError>
@@ -54,8 +54,8 @@ fn push_jumps<A: Allocator>(
 }
 
 /// Adds the jumps of the strands that a strand spawns. Errors where there is no memory.
-pub(crate) fn add_jumps<A: Allocator>(
-    jumps: &mut Vec<Jump, A>,
+pub(crate) fn add_jumps(
+    jumps: &mut Vec<Jump>,
     spawner: u32,
     spawned: Spawned,
 ) -> Result<(), AllocError>

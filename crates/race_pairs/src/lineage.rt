@@ -20,7 +20,7 @@ use crate::openers::find_opener;
 use crate::partings::{find_outstanding, find_parting};
 use model_strands::Spawned;
 use race_gate::Entry;
-use std::alloc::{AllocError, Allocator};
+use std::alloc::{AllocError, Global};
 use std::marker::Model;
 
 /// The spawn where two strands part.
@@ -58,21 +58,21 @@ pub struct OpenSpawn {
 }
 
 /// The spawns and calls of a history, and which of them lead to each strand. It grows entry by entry, and keeps nothing of accesses.
-pub struct Lineage<A: Allocator> {
+pub struct Lineage {
     /// How many entries there were.
     count: u32,
     /// The frames that spawns and calls opened, in order.
-    opened: Vec<Frame, A>,
+    opened: Vec<Frame>,
     /// The turns of strands, in order.
-    turns: Vec<Turn, A>,
+    turns: Vec<Turn>,
     /// By the strand's number.
-    strands: Vec<Strand, A>,
+    strands: Vec<Strand>,
     /// By the strand's number.
-    jumps: Vec<Jump, A>,
+    jumps: Vec<Jump>,
 }
 
 /// Written out, so that what lets a lineage go calls one function.
-impl<A: Allocator> Drop for Lineage<A> {
+impl Drop for Lineage {
     fn drop(self) {
         let Lineage {
             count: _,
@@ -84,7 +84,7 @@ impl<A: Allocator> Drop for Lineage<A> {
     }
 }
 
-impl<A: Allocator> Model for Lineage<A> {
+impl Model for Lineage {
     ghost use Rattle.race_pairs.specs.Lineages.{Kept};
 
     ghost Value = { Kept };
@@ -98,9 +98,9 @@ impl<A: Allocator> Model for Lineage<A> {
     } };
 }
 
-impl<A: Allocator + Copy> Lineage<A> {
+impl Lineage {
     /// The lineage of no entries. Errors where there is no memory.
-    pub fn new(alloc: A) -> Result<Lineage<A>, AllocError>
+    pub fn new(alloc: Global) -> Result<Lineage, AllocError>
         ensures { IfOk result (λ lineage. IsLineage lineage []) }
     {
         let mut strands = Vec::new(alloc);
@@ -117,7 +117,7 @@ impl<A: Allocator + Copy> Lineage<A> {
     }
 
     /// The lineage of these entries, which are given from the oldest on. Errors where there is no memory.
-    pub fn of(alloc: A, entries: &[Entry]) -> Result<Lineage<A>, AllocError>
+    pub fn of(alloc: Global, entries: &[Entry]) -> Result<Lineage, AllocError>
         requires legal { Legal (control_part (reverse entries.now)) }
         requires few { length entries.now ≤ most_entries }
         ensures { IfOk result (λ lineage. IsLineage lineage (reverse entries.now)) }
@@ -128,9 +128,7 @@ impl<A: Allocator + Copy> Lineage<A> {
         }
         Ok(lineage)
     }
-}
 
-impl<A: Allocator> Lineage<A> {
     /// Adds the next entry, in amortised constant time. Errors where there is no memory; the lineage is then of no use.
     pub fn add(&mut self, entry: Entry) -> Result<(), AllocError>
         requires { CanAdd self.old entry }
@@ -184,12 +182,12 @@ impl<A: Allocator> Lineage<A> {
 
     /// The numbers of the entries of the spawns and calls that enclose what the strand does before the entry with this number, the
     /// innermost first. Its time is linear in their number and in the strand's own calls. Errors where there is no memory.
-    pub fn chain<B: Allocator>(
+    pub fn chain(
         &self,
-        alloc: B,
+        alloc: Global,
         number: usize,
         strand: u32,
-    ) -> Result<Vec<usize, B>, AllocError>
+    ) -> Result<Vec<usize>, AllocError>
         requires { IsSomeLineage self.now }
         ensures { IfOk result (λ chain. (later earlier : Entries) → IsLineage self.now (later ++ earlier) → number ≡ suc (length earlier) →
             chain.items ≡ frames earlier strand) }

@@ -38,7 +38,7 @@ impl Drop for Races {
 }
 
 /// The line of the spawn at which two strands part, and None where they part at none. The lines are those of the entries.
-fn line_between(lineage: &Lineage<Global>, lines: &[u32], strand: u32, other: u32) -> Option<u32>
+fn line_between(lineage: &Lineage, lines: &[u32], strand: u32, other: u32) -> Option<u32>
     requires { (told : List AnyEntry) × AreStrandsOf told lineage.now lines.now strand other }
     ensures { (told : List AnyEntry) → AreStrandsOf told lineage.now lines.now strand other → PartOn told strand other result }
 {
@@ -49,7 +49,7 @@ fn line_between(lineage: &Lineage<Global>, lines: &[u32], strand: u32, other: u3
 }
 
 /// The line of the spawn at which the strands of a refusal and of its witness part. The lines are those of the entries up to it.
-fn spawn_line(lineage: &Lineage<Global>, lines: &[u32], sighting: Sighting) -> Option<u32>
+fn spawn_line(lineage: &Lineage, lines: &[u32], sighting: Sighting) -> Option<u32>
     requires { (told : List AnyEntry) × (last : ℕ) × IsSeen told last lineage.now lines.now sighting }
     ensures { (told : List AnyEntry) (last : ℕ) → IsSeen told last lineage.now lines.now sighting → HasSpawn told (suc last) result }
 {
@@ -138,7 +138,7 @@ impl Races {
     pub(crate) fn add(
         &mut self,
         alloc: Global,
-        lineage: &Lineage<Global>,
+        lineage: &Lineage,
         lines: &[u32],
         sighting: Sighting,
     ) -> Result<(), AllocError>

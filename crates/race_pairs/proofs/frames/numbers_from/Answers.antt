@@ -3,20 +3,20 @@ use Rattle.race_pairs.proofs.Places.{no_frame, outward, behind_empty}
 use Rattle.race_pairs.proofs.frames.numbers_from.Goals as goal
 
 pub outward-init : goal.outward-init
-outward-init g c = λ numbers encloses. (numbers, encloses, ap (λ xs. xs ++ numbers) c.new-found.ensures.items)
+outward-init c = λ numbers encloses. (numbers, encloses, ap (λ xs. xs ++ numbers) c.new-found.ensures.items)
 
 pub bounds-opened-at : goal.bounds-opened-at
-bounds-opened-at g c =
+bounds-opened-at c =
     let rest = c.outward.invariant c.requires.0 c.requires.1 in
     (outward c.args.opened.now c.outward.at rest.0 rest.1 c.outward-test.true no_frame).within
 
 pub outward-smaller : goal.outward-smaller
-outward-smaller g c =
+outward-smaller c =
     let rest = c.outward.invariant c.requires.0 c.requires.1 in
     (outward c.args.opened.now c.outward.at rest.0 rest.1 c.outward-test.true no_frame).back
 
 pub outward-preserved : goal.outward-preserved
-outward-preserved g c = λ numbers encloses.
+outward-preserved c = λ numbers encloses.
     let rest = c.outward.invariant numbers encloses in
     let out = outward c.args.opened.now c.outward.at rest.0 rest.1 c.outward-test.true no_frame in (
       out.rest,
@@ -26,6 +26,6 @@ outward-preserved g c = λ numbers encloses.
     )
 
 pub returns : goal.returns
-returns g c = λ numbers encloses.
+returns c = λ numbers encloses.
     let rest = c.outward.invariant numbers encloses in
     sym (append-nil c.outward.found.items) ∙ (ap (λ xs. c.outward.found.items ++ xs) (sym (behind_empty c.args.opened.now c.outward.at rest.0 rest.1 (c.outward-test.false))) ∙ rest.2)

@@ -4,8 +4,8 @@ use Rattle.race_pairs.proofs.frames.numbers_from.Given as goal
 
 -- what was found and the numbers of the frames that are left are all
 abbrev pub invariant-outward : goal.invariant-outward
-invariant-outward g l =
+invariant-outward l =
     (numbers : List ℕ) → Encloses l.opened l.place numbers → (rest : List ℕ) × Encloses l.opened l.at rest × (l.found.items ++ rest ≡ numbers)
 
 abbrev pub decreases-outward : goal.decreases-outward
-decreases-outward g l = l.at
+decreases-outward l = l.at

@@ -8,7 +8,7 @@ use Rattle.race_pairs.proofs.Events.{return_kept}
 use Rattle.race_pairs.proofs.growth.add_return.Goals as goal
 
 pub returns : goal.returns
-returns g c =
+returns c =
     IfOk-weaker c.add_turn.result _ _ (λ u turned entries entry kept number next.
     return_kept c.args.opened.now c.args.turns.now.items _ c.args.strands.now.items _ c.args.strand c.args.number c.outer_of.result turned entries entry kept
     number next (c.outer_of.ensures (frames entries c.args.strand) (c.place_now-place.ensures entries

@@ -11,7 +11,7 @@ use Rattle.race_pairs.proofs.lineage.Lineage.add.Goals as goal
 use Rattle.race_pairs.proofs.lineage.Lineage.add.Goals.{in-Spawns+in_ok-add_spawn-in-Spawns+in_ok-add_jumps-in-Spawns, in-Calls+in_ok-add_call-in-Calls, in-Returns+in_ok-add_return-in-Returns, in-Stays}
 
 pub add_spawn-requires : goal.add_spawn-requires
-add_spawn-requires g c =
+add_spawn-requires c =
     let lineage = subst (λ (k : Kept). IsLineage k c.requires.0) (sym c.self.view_is) c.requires.1 in
     let spawned = c.in-Spawns.spawned in
     let event = split_event c.args.entry spawned c.in-Spawns.ensures.0 c.in-Spawns.ensures.1 in
@@ -22,7 +22,7 @@ add_spawn-requires g c =
     lineage.kept_are c.requires.2 known)
 
 pub add_jumps-requires : goal.add_jumps-requires
-add_jumps-requires g c =
+add_jumps-requires c =
     let lineage = subst (λ (k : Kept). IsLineage k c.requires.0) (sym c.self.view_is) c.requires.1 in
     let spawned = c.in-Spawns.spawned in
     let event = split_event c.args.entry spawned c.in-Spawns.ensures.0 c.in-Spawns.ensures.1 in
@@ -31,7 +31,7 @@ add_jumps-requires g c =
     (c.requires.0, can_raise c.self.inside.jumps.items c.requires.0 c.args.entry.request.strand lineage.raised lineage.kept_are.made.legal c.requires.2.1 known)
 
 pub add_call-requires : goal.add_call-requires
-add_call-requires g c =
+add_call-requires c =
     let lineage = subst (λ (k : Kept). IsLineage k c.requires.0) (sym c.self.view_is) c.requires.1 in
     let event = call_event c.args.entry c.in-Calls.ensures.0 c.in-Calls.ensures.1 in
     let known = caller_known (control_part c.requires.0) c.args.entry.request.strand (event_known c.requires.0 c.args.entry _ event c.requires.2.0) in
@@ -39,7 +39,7 @@ add_call-requires g c =
     lineage.kept_are c.requires.2 known
 
 pub add_return-requires : goal.add_return-requires
-add_return-requires g c =
+add_return-requires c =
     let lineage = subst (λ (k : Kept). IsLineage k c.requires.0) (sym c.self.view_is) c.requires.1 in
     let event = return_event c.args.entry c.in-Returns.ensures.0 c.in-Returns.ensures.1 in
     let known = returner_known (control_part c.requires.0) c.args.entry.request.strand (event_known c.requires.0 c.args.entry _ event c.requires.2.0) in
@@ -48,7 +48,7 @@ add_return-requires g c =
     lineage.kept_are c.requires.2 known)
 
 pub returns : goal.returns
-returns g c = λ entries lineage_now grows.
+returns c = λ entries lineage_now grows.
     let lineage = subst (λ (k : Kept). IsLineage k entries) (sym c.self.view_is) lineage_now in
     let number : c.self.inside.count + 1 ≡ suc (length entries) = omega (arith, lineage.count_is) in
     elim c.match-step_of.branch [

@@ -9,7 +9,7 @@ use Rattle.race_pairs.proofs.Added.{earlier_ones}
 use Rattle.race_pairs.proofs.lineage.Lineage.chain.Goals as goal
 
 pub numbers_from-requires : goal.numbers_from-requires
-numbers_from-requires g c =
+numbers_from-requires c =
     let lineage = subst (λ (k : Kept). IsLineage k c.requires.0) (sym c.self.view_is) c.requires.1 in
     let low : c.args.number - 1 ≤ length c.requires.0 = omega (arith, c.if-number-self.false, lineage.count_is) in
     let split = earlier_ones c.requires.0 (c.args.number - 1) low in

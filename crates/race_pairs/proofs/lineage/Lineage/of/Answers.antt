@@ -6,7 +6,7 @@ use Rattle.race_pairs.proofs.Numbers.{no_entry, so_far, legal_next}
 use Rattle.race_pairs.proofs.lineage.Lineage.of.Goals as goal
 
 pub add-requires : goal.add-requires
-add-requires g c =
+add-requires c =
     let told = c.args.entries.now in
     let at = c.loop-entry.entry-index in
     let below : at < length told = c.loop-entry-test.true in
@@ -14,7 +14,7 @@ add-requires g c =
     (reverse (take at told), c.loop-entry.invariant, (legal_next told at no_entry below c.requires.legal, few))
 
 pub loop-entry-preserved : goal.loop-entry-preserved
-loop-entry-preserved g c =
+loop-entry-preserved c =
     let told = c.args.entries.now in
     let at = c.loop-entry.entry-index in
     let below : at < length told = c.loop-entry-test.true in
