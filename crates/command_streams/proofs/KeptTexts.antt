@@ -117,7 +117,7 @@ module _ {A : Type 0} (head : List ℕ) (end : ℕ) (old : BegunTrace A) (within
   head_is : (waited : List ℕ) → waited ≡ drop end head → take end head ++ waited ≡ head
   head_is waited rest = ap (λ (bytes : List ℕ). take end head ++ bytes) rest ∙ take-append-drop end head
 
-  pub found_behind : (before : Option (List ℕ)) (waited : List ℕ) (new : Progress A) (called calls : ℕ) (ended : Bool) (found : Tail A)
+  pub found_behind : (before : Option (List ℕ)) (waited : List ℕ) (new : Progress A) (called calls : ℕ) (ended : Bool) (found : Tail)
       → waited ≡ drop end head → HasReadRequests (progress old end waited before) new called calls ended
       → IsCalledAtMost (most_reads - (end + length waited)) called calls → found.end ≡ end → found.count ≡ length old.draft.lines
       → contents found.trace ≡ so_far new.begun.draft.names new.begun.draft.lines → found.waiting.items ≡ new.waiting → found.is_ended ≡ ended
@@ -161,7 +161,7 @@ module _ {A : Type 0} (head : List ℕ) (end : ℕ) (old : BegunTrace A) (within
 
 -- ---- all that was read
 
-module _ {A : Type 0} (head : List ℕ) (before now : Option (List ℕ)) (called calls : ℕ) (found : Tail A) (is : IsReadBehind head before now called calls found) where
+module _ (head : List ℕ) (before now : Option (List ℕ)) (called calls : ℕ) (found : Tail) (is : IsReadBehind head before now called calls found) where
   found_taken : (bytes : List ℕ) (first : Option (List ℕ)) → bytes ≡ restored head found → Consumes first before head → Consumes first now bytes
   found_taken bytes first same taken =
       subst (λ (all : List ℕ). Consumes first now all) (is.whole ∙ sym same) (consumes-more first before now head is.more taken is.taken)

@@ -12,17 +12,17 @@ use Rattle.command_streams.specs.Streams.{most_bytes, most_reads}
 use Rattle.command_streams.specs.PlainTexts.{rejoined, IsPlainText, Progress, ReadsRequests}
 
 -- The text that is kept.
-abbrev pub text_of : {A : Type 0} → KeptText A → List ℕ
+abbrev pub text_of : KeptText → List ℕ
 text_of (Whole text) = text.items
 text_of (Plain kept) = rejoined kept.head.items kept.count (contents kept.trace)
 
 -- What is kept of it is so.
-abbrev pub IsKept : {A : Type 0} → KeptText A → Type 0
+abbrev pub IsKept : KeptText → Type 0
 IsKept (Whole text) = Unit {0}
 IsKept (Plain kept) = IsPlainText kept.head.items kept.count (contents kept.trace)
 
 -- The text that is kept means the trace.
-pub record KeepsTrace {A : Type 0} (source : KeptText A) (trace : Contents) : Type 0 where
+pub record KeepsTrace (source : KeptText) (trace : Contents) : Type 0 where
   pub kept : IsKept source
   pub means : TextMeans (text_of source) trace
 
@@ -36,12 +36,12 @@ pub record HasReadRequests {A : Type 0} (old new : Progress A) (called calls : �
   pub called_few : ended ≡ false → IsCalledAtMost ((new.done + length new.waiting) - (old.done + length old.waiting)) called calls
 
 -- All that was read, by what was found behind the head.
-abbrev pub restored : {A : Type 0} → (head : List ℕ) → Tail A → List ℕ
+abbrev pub restored : (head : List ℕ) → Tail → List ℕ
 restored head found = rejoined (take found.end head) found.count (contents found.trace) ++ found.waiting.items
 
 -- What was read behind the head. The whole lines of the head are that of a plain text, and what is restored is the head and what was read
 -- behind it.
-pub record IsReadBehind {A : Type 0} (head : List ℕ) (before now : Option (List ℕ)) (called calls : ℕ) (found : Tail A) : Type 0 where
+pub record IsReadBehind (head : List ℕ) (before now : Option (List ℕ)) (called calls : ℕ) (found : Tail) : Type 0 where
   pub within : found.end ≤ length head
   pub plain : IsPlainText (take found.end head) found.count (contents found.trace)
   pub more : List ℕ

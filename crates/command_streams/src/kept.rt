@@ -14,7 +14,7 @@ ghost use Rattle.command_streams.specs.KeptTexts.{IsKept, text_of, restored, Has
 use crate::fault::CliFault;
 use crate::streams::{MOST_BYTES, PIECE, copy_behind, read_until, remove_front};
 use crate::watched::Watched;
-use std::alloc::{AllocError, Allocator};
+use std::alloc::{AllocError, Global};
 use std::io::Read;
 use text_words::TextFault;
 use trace_text::{BegunTrace, Trace};
@@ -24,17 +24,17 @@ const LONGEST: usize = 4096;
 
 /// A text that means a trace, and of which the head alone is kept. Behind it stand the plain lines of the requests behind the first so
 /// many.
-pub struct PlainText<A: Allocator> {
+pub struct PlainText {
     /// The whole lines at the head of the text.
-    pub head: Vec<u8, A>,
+    pub head: Vec<u8>,
     /// How many requests stand in the head.
     pub count: usize,
     /// What the text means.
-    pub trace: Trace<A>,
+    pub trace: Trace<Global>,
 }
 
 /// Written out, so that what lets it go calls one function.
-impl<A: Allocator> Drop for PlainText<A> {
+impl Drop for PlainText {
     fn drop(self) {
         let PlainText {
             head: _,
@@ -45,10 +45,10 @@ impl<A: Allocator> Drop for PlainText<A> {
 }
 
 /// Adds the plain lines of a trace's requests behind the first so many to a text.
-fn push_requests<A: Allocator + Copy>(
-    alloc: A,
-    text: &mut Vec<u8, A>,
-    trace: &Trace<A>,
+fn push_requests(
+    alloc: Global,
+    text: &mut Vec<u8>,
+    trace: &Trace<Global>,
     count: usize,
 ) -> Result<(), AllocError>
     ensures { OnOk result (text.new.items ≡ rejoined text.old.items count (contents trace.now)) }
@@ -57,9 +57,9 @@ fn push_requests<A: Allocator + Copy>(
     text.extend_from_slice(lines.as_slice())
 }
 
-impl<A: Allocator + Copy> PlainText<A> {
+impl PlainText {
     /// The text.
-    pub fn to_text(&self, alloc: A) -> Result<Vec<u8, A>, AllocError>
+    pub fn to_text(&self, alloc: Global) -> Result<Vec<u8>, AllocError>
         ensures { IfOk result (λ text. text.items ≡ rejoined self.now.head.items self.now.count (contents self.now.trace)) }
     {
         let mut text = Vec::new(alloc);
@@ -71,29 +71,29 @@ impl<A: Allocator + Copy> PlainText<A> {
 
 /// A text that was read to its end.
 #[derive(Drop)]
-pub enum KeptText<A: Allocator> {
+pub enum KeptText {
     /// As it stands.
-    Whole(Vec<u8, A>),
+    Whole(Vec<u8>),
     /// As a head and a trace.
-    Plain(PlainText<A>),
+    Plain(PlainText),
 }
 
 /// What was read behind the head of a text.
-struct Tail<A: Allocator> {
+struct Tail {
     /// The trace of the whole lines that were read, those of the head among them.
-    trace: Trace<A>,
+    trace: Trace<Global>,
     /// How many bytes of the head are whole lines.
     end: usize,
     /// How many requests stand in these.
     count: usize,
     /// What stands behind the lines of the trace.
-    waiting: Vec<u8, A>,
+    waiting: Vec<u8>,
     /// Whether all is read.
     is_ended: bool,
 }
 
 /// Written out, so that what lets it go calls one function.
-impl<A: Allocator> Drop for Tail<A> {
+impl Drop for Tail {
     fn drop(self) {
         let Tail {
             trace: _,
@@ -105,9 +105,9 @@ impl<A: Allocator> Drop for Tail<A> {
     }
 }
 
-impl<A: Allocator> Tail<A> {
+impl Tail {
     /// The trace, and how many of its requests stand in the head.
-    fn into_parts(self) -> (Trace<A>, usize)
+    fn into_parts(self) -> (Trace<Global>, usize)
         ensures { (result.0 ≡ self.trace) × (result.1 ≡ self.count) }
     {
         let Tail {
@@ -122,7 +122,7 @@ impl<A: Allocator> Tail<A> {
 }
 
 /// Takes the plain lines of requests at the head of what waits. It gives how many bytes they are.
-fn take_front<A: Allocator + Copy>(begun: &mut BegunTrace<'_, A>, waiting: &mut Vec<u8, A>) -> usize
+fn take_front(begun: &mut BegunTrace<'_, Global>, waiting: &mut Vec<u8>) -> usize
     requires { (done : List ℕ) × IsBegun done begun.old }
     ensures count { length waiting.new.items + result ≡ length waiting.old.items }
     ensures taken { TakesFront begun.old waiting.old.items waiting.new.items begun.new }
@@ -134,12 +134,12 @@ fn take_front<A: Allocator + Copy>(begun: &mut BegunTrace<'_, A>, waiting: &mut 
 }
 
 /// Reads on as long as what is read are plain lines of requests, behind so many bytes that were taken. It says whether all is read.
-fn read_plain<A: Allocator + Copy, R: Read>(
+fn read_plain<R: Read>(
     input: &mut Watched<R>,
     piece: &mut [u8],
-    begun: &mut BegunTrace<'_, A>,
+    begun: &mut BegunTrace<'_, Global>,
     done: usize,
-    waiting: &mut Vec<u8, A>,
+    waiting: &mut Vec<u8>,
 ) -> Result<bool, CliFault>
     requires begun { (bytes : List ℕ) × IsBegun bytes begun.old }
     requires fresh { has_failed input.old ≡ false }
@@ -166,14 +166,14 @@ fn read_plain<A: Allocator + Copy, R: Read>(
 }
 
 /// Reads what stands behind the first `end` bytes of a head, as long as it is plain.
-fn read_tail<A: Allocator + Copy, R: Read>(
-    alloc: A,
+fn read_tail<R: Read>(
+    alloc: Global,
     input: &mut Watched<R>,
     piece: &mut [u8],
-    mut begun: BegunTrace<'_, A>,
+    mut begun: BegunTrace<'_, Global>,
     head: &[u8],
     end: usize,
-) -> Result<Tail<A>, CliFault>
+) -> Result<Tail, CliFault>
     requires begun { (end ≤ length head.now) × IsBegun (take end head.now) begun }
     requires fresh { has_failed input.old ≡ false }
     requires room { 0 < length piece.old }
@@ -198,12 +198,12 @@ fn read_tail<A: Allocator + Copy, R: Read>(
 }
 
 /// Reads what stands behind the head of a text, as long as it is plain. None where the whole lines of the head have no request, or a fault.
-fn read_behind<A: Allocator + Copy, R: Read>(
-    alloc: A,
+fn read_behind<R: Read>(
+    alloc: Global,
     input: &mut Watched<R>,
     piece: &mut [u8],
     head: &[u8],
-) -> Result<Option<Tail<A>>, CliFault>
+) -> Result<Option<Tail>, CliFault>
     requires fresh { has_failed input.old ≡ false }
     requires room { 0 < length piece.old }
     requires short { length head.now ≤ most_bytes }
@@ -223,10 +223,10 @@ fn read_behind<A: Allocator + Copy, R: Read>(
 }
 
 /// Makes of a head all that was read.
-fn restore<A: Allocator + Copy>(
-    alloc: A,
-    head: &mut Vec<u8, A>,
-    found: Tail<A>,
+fn restore(
+    alloc: Global,
+    head: &mut Vec<u8>,
+    found: Tail,
 ) -> Result<(), AllocError>
     ensures { OnOk result (head.new.items ≡ restored head.old.items found) }
 {
@@ -236,11 +236,11 @@ fn restore<A: Allocator + Copy>(
 }
 
 /// Reads what is left behind these bytes of a text, which is kept as it stands.
-fn read_rest<A: Allocator, R: Read>(
+fn read_rest<R: Read>(
     input: &mut Watched<R>,
     piece: &mut [u8],
-    mut text: Vec<u8, A>,
-) -> Result<KeptText<A>, CliFault>
+    mut text: Vec<u8>,
+) -> Result<KeptText, CliFault>
     requires fresh { has_failed input.old ≡ false }
     requires room { 0 < length piece.old }
     requires short { length text.items ≤ most_bytes }
@@ -255,13 +255,13 @@ fn read_rest<A: Allocator, R: Read>(
 }
 
 /// Keeps a text by its head and what was found behind it, and reads what is left where that is no plain text.
-fn keep_found<A: Allocator + Copy, R: Read>(
-    alloc: A,
+fn keep_found<R: Read>(
+    alloc: Global,
     input: &mut Watched<R>,
     piece: &mut [u8],
-    mut head: Vec<u8, A>,
-    found: Tail<A>,
-) -> Result<KeptText<A>, CliFault>
+    mut head: Vec<u8>,
+    found: Tail,
+) -> Result<KeptText, CliFault>
     requires fresh { has_failed input.old ≡ false }
     requires room { 0 < length piece.old }
     requires found { (before : Option (List ℕ)) × (called : ℕ)
@@ -292,10 +292,10 @@ fn keep_found<A: Allocator + Copy, R: Read>(
 }
 
 /// Reads all that is left. Of a trace whose lines behind the first piece are plain lines of requests, the head alone is kept.
-pub fn read_kept<A: Allocator + Copy, R: Read>(
-    alloc: A,
+pub fn read_kept<R: Read>(
+    alloc: Global,
     input: &mut Watched<R>,
-) -> Result<KeptText<A>, CliFault>
+) -> Result<KeptText, CliFault>
     requires { has_failed input.old ≡ false }
     ensures ok { IfOk result (λ kept. IsRead (R.remaining (held input.old)) (R.remaining (held input.new)) (text_of kept)) }
     ensures kept { IfOk result IsKept }
