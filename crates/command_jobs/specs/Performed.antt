@@ -1,5 +1,4 @@
 -- What a job does: from what standard input and files hold to what is written, and the status.
-use Rattle.std.specs.Global.{Global}
 use Rattle.std.specs.Prelude.{ℕ, Bool, true, false, ◌≡◌, ◌⊎◌, Option, Some, None, Result, Ok, Err, IfOk, IfErr, IsErrOf, List, codes, map, String, if◌then◌else◌}
 use Rattle.std.specs.String.{string_bytes}
 use Rattle.std.specs.Str.{bytes_eq}
@@ -115,7 +114,7 @@ IsPerformed sources (Replay file trace) wrote writes status = (program_behind : 
     (reading (replayed sources (string_bytes file) (string_bytes trace)) trace_behind)
     wrote writes status
 IsPerformed sources (Draw file language) wrote writes status = (behind : Option (List ℕ)) ×
-    IsDrawn Global (form_of language) (reading (named sources (string_bytes file)) behind) wrote writes status
+    IsDrawn (form_of language) (reading (named sources (string_bytes file)) behind) wrote writes status
 IsPerformed sources (Show text) wrote writes status = (status ≡ 0) × Appends wrote writes (string_bytes text)
 
 -- Why the job was not done, or not wholly: each fault has the cause that it has in the job's own call.
@@ -145,7 +144,7 @@ HasJobCause sources (Replay file trace) wrote writes fault = (program_behind : O
     (reading (replayed sources (string_bytes file) (string_bytes trace)) trace_behind)
     wrote writes fault
 HasJobCause sources (Draw file language) wrote writes fault = (behind : Option (List ℕ)) ×
-    HasDrawingCause Global (form_of language) (reading (named sources (string_bytes file)) behind) wrote writes fault
+    HasDrawingCause (form_of language) (reading (named sources (string_bytes file)) behind) wrote writes fault
 HasJobCause sources (Show text) wrote writes fault = StopsWriting wrote writes (string_bytes text) fault
 
 -- Of a job that records: the file of the trace, which held `blank` when it was made, has the trace of the run that is reported.

@@ -1,7 +1,6 @@
 -- What is told of the entries of a run.
 use Rattle.std.specs.Prelude.{ℕ, ◌≡◌, Bool, List, ◌++◌, codes, map}
 use Rattle.std.specs.Prelude.{length, take}
-use Rattle.std.specs.Global.{Global}
 use Rattle.text_words.specs.Values.{Known}
 use Rattle.program_text.specs.Drafts.{Contents}
 use Rattle.model_histories.specs.declared.answer.Entry.{Entry}
@@ -71,7 +70,7 @@ abbrev pub IsExplanation : (is_painted : Bool) → Extent → ProgramFile → Li
 IsExplanation is_painted extent file entries text = TellsEntries (program_setting is_painted file entries) extent entries text
 
 -- the entries are those of a trace with these declarations and notes
-abbrev pub trace_setting : (is_painted : Bool) → Notes Global → Known → List Entry → Setting
+abbrev pub trace_setting : (is_painted : Bool) → Notes → Known → List Entry → Setting
 trace_setting is_painted notes known entries = record {
   look = record { is_painted = is_painted; width = 2 };
   origin = in_trace notes;
@@ -80,5 +79,5 @@ trace_setting is_painted notes known entries = record {
   lines = map (λ entry. entry.request.line) entries;
 }
 
-abbrev pub IsTraceExplanation : (is_painted : Bool) → Extent → Notes Global → Known → List Entry → (text : List ℕ) → Type 0
+abbrev pub IsTraceExplanation : (is_painted : Bool) → Extent → Notes → Known → List Entry → (text : List ℕ) → Type 0
 IsTraceExplanation is_painted extent notes known entries text = TellsEntries (trace_setting is_painted notes known entries) extent entries text

@@ -1,6 +1,5 @@
 -- Words for what stands in a program and in a run of it.
 use Rattle.std.specs.Prelude.{ℕ, ◌&&◌, nat_lt, not, Bool, true, false, List, [], ◌∷◌, codes, take, drop, Option, Some, None, is_some, if◌then◌else◌}
-use Rattle.std.specs.Global.{Global}
 use Rattle.std.specs.Str.{bytes_eq}
 use Rattle.trace_notes.specs.declared.notes.Notes.{Notes}
 use Rattle.trace_notes.specs.Places.{PlaceParts}
@@ -41,7 +40,7 @@ are_in_one_function (in_trace notes) line other =
     is_one_name (noted_function (noted_place notes line)) (noted_function (noted_place notes other))
 
 -- no note of the trace says where the line is
-abbrev pub is_unnoted : Notes Global → ℕ → Bool
+abbrev pub is_unnoted : Notes → ℕ → Bool
 is_unnoted notes line = not (is_some (noted_place notes line))
 
 -- Two lines are known to stand in one call of a function. The entries of a trace have their calls. The places of its notes need not have

@@ -117,7 +117,7 @@ pub fn trace_explanation<'s>(
     alloc: Global,
     is_painted: bool,
     extent: Extent,
-    notes: &'s Notes<Global>,
+    notes: &'s Notes,
     trace: &'s Trace<Global>,
     digest: &'s Digest,
 ) -> Result<Vec<u8>, AllocError>

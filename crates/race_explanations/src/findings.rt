@@ -103,7 +103,7 @@ impl Findings {
         is_painted: bool,
         extent: Extent,
         file: &str,
-        notes: &'s Notes<Global>,
+        notes: &'s Notes,
         trace: &'s Trace<Global>,
         digest: &'s Digest,
     ) -> Result<(), AllocError>

@@ -25,7 +25,7 @@ pub enum Origin<'s, 'a> {
     /// Where the notes of a trace say.
     Trace {
         /// The notes of its texts.
-        notes: &'s Notes<Global>,
+        notes: &'s Notes,
     },
 }
 

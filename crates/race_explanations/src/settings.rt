@@ -47,7 +47,7 @@ const WIDTH: usize = 2;
 /// The scene of a trace with these notes.
 pub fn trace_scene<'s>(
     is_painted: bool,
-    notes: &'s Notes<Global>,
+    notes: &'s Notes,
     trace: &'s Trace<Global>,
     digest: &'s Digest,
 ) -> Scene<'s, 's>

@@ -67,7 +67,7 @@ fn spaced_name(
 }
 
 /// Adds what the notes of a trace say of a name, or the name.
-fn push_noted(text: &mut TextBuilder, notes: &Notes<Global>, name: &str)
+fn push_noted(text: &mut TextBuilder, notes: &Notes, name: &str)
     ensures { Adds text.old (noted_name (noted_text notes.now name.now) name.now) text.new }
 {
     match notes.text_of(name) {

@@ -1,6 +1,5 @@
 -- What is told of a run or of traces, as one value.
 use Rattle.std.specs.Prelude.{ℕ, ◌≡◌, false, List, [], codes, length, map, take, Option, Some}
-use Rattle.std.specs.Global.{Global}
 use Rattle.serde_json.specs.Data.{Data, null, string, object, member, no_members}
 use Rattle.model_histories.specs.declared.answer.Entry.{Entry}
 use Rattle.trace_notes.specs.declared.notes.Notes.{Notes}
@@ -75,7 +74,7 @@ pub record EndParts : Type 0 where
   pub warned : Warned
 
 -- how a trace with these notes came out
-abbrev pub end_of_trace : Outcome → Notes Global → EndParts
+abbrev pub end_of_trace : Outcome → Notes → EndParts
 end_of_trace outcome notes = record { outcome = outcome; traces = 1; memory = null; recorded = kept_runs notes; warned = none_warned }
 
 -- The text tells in the form of the entries, the oldest first, as the value says: of each of the first pairs of places that raced, in groups

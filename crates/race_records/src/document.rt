@@ -278,7 +278,7 @@ pub fn trace_record<'s>(
     form: RecordForm,
     outcome: Outcome,
     extent: Extent,
-    notes: &'s Notes<Global>,
+    notes: &'s Notes,
     trace: &'s Trace<Global>,
     digest: &'s Digest,
 ) -> Result<Vec<u8>, AllocError>

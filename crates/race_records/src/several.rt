@@ -347,7 +347,7 @@ impl Records {
         alloc: Global,
         extent: Extent,
         file: &str,
-        notes: &'s Notes<Global>,
+        notes: &'s Notes,
         trace: &'s Trace<Global>,
         digest: &'s Digest,
     ) -> Result<(), AllocError>

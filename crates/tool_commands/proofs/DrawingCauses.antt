@@ -23,11 +23,11 @@ use Rattle.dag_drawing.specs.Drawn.{HasMoreStrands}
 use Rattle.tool_commands.specs.Replays.{AnswersAll, StopsGate, fault_of_request}
 use Rattle.tool_commands.specs.Drawings.{naming_in, StopsEntries, DrawsText, StopsText, IsDrawn, HasDrawingCause}
 
-abbrev naming_by : {A : Type 0} → List Mem → List Reducer → Notes A → Naming A
+abbrev naming_by : List Mem → List Reducer → Notes → Naming
 naming_by mems reducers notes = record { mems = mems; reducers = reducers; notes = notes }
 
 -- the text is by the names of the trace
-pub text_named : {A : Type 0} (form : Form) (notes : Notes A) (trace : Contents) (mems : List Mem) (reducers : List Reducer) (drawing : Drawing A) (text : List ℕ) →
+pub text_named : (form : Form) (notes : Notes) (trace : Contents) (mems : List Mem) (reducers : List Reducer) (drawing : Drawing) (text : List ℕ) →
     mems ≡ trace.known.mems → reducers ≡ trace.known.reducers → text ≡ text_in form (naming_by mems reducers notes) drawing →
     text ≡ text_in form (naming_in notes trace) drawing
 text_named form notes trace mems reducers drawing text same_mems same_reducers is =
@@ -35,14 +35,14 @@ text_named form notes trace mems reducers drawing text same_mems same_reducers i
     ap (λ (l : List Reducer). text_in form (naming_by trace.known.mems l notes) drawing) same_reducers
 
 -- the bytes were read, and their trace is not drawn
-pub drawing_stops : (A : Type 0) (form : Form) (reader : Reading) (wrote writes : Option (List ℕ)) (bytes : List ℕ) (fault : CliFault) →
-    IsRead reader.before reader.behind bytes → StopsText bytes fault → HasDrawingCause A form reader wrote writes fault
-drawing_stops A form reader wrote writes bytes Read read stops = tt
-drawing_stops A form reader wrote writes bytes Write read stops = absurd stops.stops
-drawing_stops A form reader wrote writes bytes TooLong read stops = absurd stops.stops
-drawing_stops A form reader wrote writes bytes (Trace why) read stops = record { text = bytes; read = read; faulty = stops }
-drawing_stops A form reader wrote writes bytes Memory read stops = tt
-drawing_stops A form reader wrote writes bytes fault read stops =
+pub drawing_stops : (form : Form) (reader : Reading) (wrote writes : Option (List ℕ)) (bytes : List ℕ) (fault : CliFault) →
+    IsRead reader.before reader.behind bytes → StopsText bytes fault → HasDrawingCause form reader wrote writes fault
+drawing_stops form reader wrote writes bytes Read read stops = tt
+drawing_stops form reader wrote writes bytes Write read stops = absurd stops.stops
+drawing_stops form reader wrote writes bytes TooLong read stops = absurd stops.stops
+drawing_stops form reader wrote writes bytes (Trace why) read stops = record { text = bytes; read = read; faulty = stops }
+drawing_stops form reader wrote writes bytes Memory read stops = tt
+drawing_stops form reader wrote writes bytes fault read stops =
     record { trace = stops.trace; read = record { text = bytes; read = read; means = stops.means }; stops = stops.stops }
 
 -- which is no fault of a device
@@ -53,9 +53,9 @@ pub drawing_unwritten : (bytes : List ℕ) → StopsText bytes Write → ⊥
 drawing_unwritten bytes stops = stops.stops
 
 -- the drawing was written
-pub drawn_whole : (A : Type 0) (form : Form) (reader : Reading) (wrote writes : Option (List ℕ)) (bytes text : List ℕ) (status : ℕ) →
-    IsRead reader.before reader.behind bytes → DrawsText A form bytes text status → Appends wrote writes text → IsDrawn A form reader wrote writes status
-drawn_whole A form reader wrote writes bytes text status read draws written = record {
+pub drawn_whole : (form : Form) (reader : Reading) (wrote writes : Option (List ℕ)) (bytes text : List ℕ) (status : ℕ) →
+    IsRead reader.before reader.behind bytes → DrawsText form bytes text status → Appends wrote writes text → IsDrawn form reader wrote writes status
+drawn_whole form reader wrote writes bytes text status read draws written = record {
   trace = draws.trace;
   text = text;
   read = record { text = bytes; read = read; means = draws.means };
@@ -66,10 +66,10 @@ drawn_whole A form reader wrote writes bytes text status read draws written = re
 }
 
 -- only a part of it could be written
-pub drawing_cut : (A : Type 0) (form : Form) (reader : Reading) (wrote writes : Option (List ℕ)) (bytes text : List ℕ) (status : ℕ) (fault : CliFault) →
-    IsRead reader.before reader.behind bytes → DrawsText A form bytes text status → StopsWriting wrote writes text fault →
-    HasDrawingCause A form reader wrote writes fault
-drawing_cut A form reader wrote writes bytes text status Write read draws stops = record {
+pub drawing_cut : (form : Form) (reader : Reading) (wrote writes : Option (List ℕ)) (bytes text : List ℕ) (status : ℕ) (fault : CliFault) →
+    IsRead reader.before reader.behind bytes → DrawsText form bytes text status → StopsWriting wrote writes text fault →
+    HasDrawingCause form reader wrote writes fault
+drawing_cut form reader wrote writes bytes text status Write read draws stops = record {
   trace = draws.trace;
   text = text;
   status = status;
@@ -82,7 +82,7 @@ drawing_cut A form reader wrote writes bytes text status Write read draws stops 
   written = stops.2;
   prefix = stops.3;
 }
-drawing_cut A form reader wrote writes bytes text status fault read draws stops = absurd stops
+drawing_cut form reader wrote writes bytes text status fault read draws stops = absurd stops
 
 -- ---- why the trace of some bytes is not drawn
 

@@ -129,7 +129,7 @@ dropped known zero asked all = all
 dropped known (suc count) [] all = tt
 dropped known (suc count) (one ∷ asked) all = dropped known count asked all.1
 
-quiet_adds : {A : Type 0} (known : Known) (asked : List TraceLine) (notes : Notes A) → AllByRecursion (IsQuiet known) asked
+quiet_adds : (known : Known) (asked : List TraceLine) (notes : Notes) → AllByRecursion (IsQuiet known) asked
     → Adds (lines (requests_text known asked)) notes notes
 quiet_adds known [] notes all = adds_none notes
 quiet_adds known (one ∷ asked) notes all =
@@ -140,7 +140,7 @@ quiet_adds known (one ∷ asked) notes all =
     subst (λ (ls : List (List ℕ)). Adds ls notes notes) (sym split) (adds_plain line (lines rest) notes notes all.0.1 (quiet_adds known asked notes all.1))
 
 -- the notes of the head are those of the text
-pub head_notes : {A : Type 0} (head : List ℕ) (count : ℕ) (trace : Contents) (notes : Notes A) → IsPlainText head count trace → AreNotes (lines head) notes
+pub head_notes : (head : List ℕ) (count : ℕ) (trace : Contents) (notes : Notes) → IsPlainText head count trace → AreNotes (lines head) notes
     → AreNotes (lines (rejoined head count trace)) notes
 head_notes head count trace notes plain are =
     let kept = kept_of_text (rejoined head count trace) trace plain.means in
@@ -152,21 +152,21 @@ head_notes head count trace notes plain are =
 
 -- ---- a text that is kept by its head and its trace
 
-pub kept_means : {A : Type 0} (source : KeptText A) (kept : PlainText A) → source ≡ Plain kept → IsKept source → KeepsTrace source (trace_contents kept.trace)
+pub kept_means : (source : KeptText) (kept : PlainText) → source ≡ Plain kept → IsKept source → KeepsTrace source (trace_contents kept.trace)
 kept_means {A} source kept is all =
-    let plain : IsKept (Plain kept) = subst (λ (some : KeptText A). IsKept some) is all in record {
+    let plain : IsKept (Plain kept) = subst (λ (some : KeptText). IsKept some) is all in record {
       kept = all;
-      means = subst (λ (some : KeptText A). TextMeans (text_of some) (trace_contents kept.trace)) (sym is) plain.means;
+      means = subst (λ (some : KeptText). TextMeans (text_of some) (trace_contents kept.trace)) (sym is) plain.means;
     }
 
 -- why nothing is told of it
-pub untold : {A : Type 0} (source : KeptText A) (trace : Contents) (fault : CliFault) → KeepsTrace source trace → (fault ≡ Memory) ⊎ StopsGate trace fault
+pub untold : (source : KeptText) (trace : Contents) (fault : CliFault) → KeepsTrace source trace → (fault ≡ Memory) ⊎ StopsGate trace fault
     → (fault ≡ Memory) ⊎ IsUntoldTrace (text_of source) fault
 untold source trace fault keeps (inl is) = inl is
 untold source trace fault keeps (inr stops) = inr (record { trace = trace; means = keeps.means; stops = stops })
 
 -- it is no program's
-pub kept_no_program : {A : Type 0} (source : KeptText A) (kept : PlainText A) → source ≡ Plain kept → IsKept source → is_program_text (text_of source) ≡ false
+pub kept_no_program : (source : KeptText) (kept : PlainText) → source ≡ Plain kept → IsKept source → is_program_text (text_of source) ≡ false
 kept_no_program source kept is all = no_program (text_of source) (trace_contents kept.trace) (kept_means source kept is all).means
 
 pub stops_traced : (text : List ℕ) (limit : ℕ) (fault : CliFault) → is_program_text text ≡ false → (fault ≡ Memory) ⊎ IsUntoldTrace text fault

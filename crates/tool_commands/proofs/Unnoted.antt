@@ -48,7 +48,7 @@ bare_stripped line b = by (slice_index line (length line - 1) == 13) refl
     by true e = rw e (bare_taken (length line - 1) line b)
     by false e = rw e (bare_whole line b)
 
-bare_adds : {A : Type 0} (some : List (List ℕ)) (notes : Notes A) → AreBare some → Adds (map strip_carriage_return some) notes notes
+bare_adds : (some : List (List ℕ)) (notes : Notes) → AreBare some → Adds (map strip_carriage_return some) notes notes
 bare_adds [] notes b = adds_none notes
 bare_adds (line ∷ rest) notes b =
     adds_plain (strip_carriage_return line) (map strip_carriage_return rest) notes notes
@@ -62,7 +62,7 @@ bare_text (byte ∷ bytes) none = (by (byte == 35) refl, bare_text bytes (λ k l
     by true e = absurd (none 0 (omega arith) (omega arith) e)
     by false e = e
 
-pub no_notes : {A : Type 0} (text : List ℕ) (notes : Notes A) (found : Option ℕ) → IsFirstByte (is_byte 35) text found → found ≡ None →
+pub no_notes : (text : List ℕ) (notes : Notes) (found : Option ℕ) → IsFirstByte (is_byte 35) text found → found ≡ None →
     AreNotes [] notes → AreNotes (lines text) notes
 no_notes text notes None is none are = are_more [] (lines text) notes notes are (bare_adds (pieces text) notes (bare_pieces text (bare_text text is)))
 no_notes text notes (Some k) is none are = absurd (cc)

@@ -24,17 +24,17 @@ use Rattle.command_streams.specs.Streams.{IsRead, IsFaulty, IsFaultOf}
 -- ---- the drawing of a trace
 
 -- what cells, reducers and marks are told by: what the trace declares, and notes
-abbrev pub naming_in : {A : Type 0} → Notes A → Contents → Naming A
+abbrev pub naming_in : Notes → Contents → Naming
 naming_in notes trace = record { mems = trace.known.mems; reducers = trace.known.reducers; notes = notes }
 
 -- A gate answered each request of the trace, and the text is that of the drawing of the gate's history in this language, by the names
 -- that the trace declares and by notes. The status tells whether something was refused in it.
-pub record DrawsContents {A : Type 0} (form : Form) (notes : Notes A) (trace : Contents) (text : List ℕ) (status : ℕ) : Type 0 where
+pub record DrawsContents (form : Form) (notes : Notes) (trace : Contents) (text : List ℕ) (status : ℕ) : Type 0 where
   pub gate : GateState
   pub answers : AnswersAll trace gate
   pub entries : List Entry
   pub history : reverse entries ≡ gate.history
-  pub drawing : Drawing A
+  pub drawing : Drawing
   pub drawn : IsDrawing entries drawing
   pub text_is : text ≡ text_in form (naming_in notes trace) drawing
   pub status_is : status ≡ refusal_status entries
@@ -60,10 +60,10 @@ StopsDrawing trace Memory = Unit {0}
 StopsDrawing trace fault = ⊥
 
 -- The bytes mean a trace, and the text is its drawing, by the notes of those very bytes.
-pub record DrawsText (A : Type 0) (form : Form) (bytes text : List ℕ) (status : ℕ) : Type 0 where
+pub record DrawsText (form : Form) (bytes text : List ℕ) (status : ℕ) : Type 0 where
   pub trace : Contents
   pub means : TextMeans bytes trace
-  pub notes : Notes A
+  pub notes : Notes
   pub noted : AreNotes (lines bytes) notes
   pub draws : DrawsContents form notes trace text status
 
@@ -88,24 +88,24 @@ pub record IsTraceRead (reader : Reading) (trace : Contents) : Type 0 where
   pub means : TextMeans text trace
 
 -- A trace was read, and its drawing was written, by the notes of the text that was read.
-pub record IsDrawn (A : Type 0) (form : Form) (reader : Reading) (wrote writes : Option (List ℕ)) (status : ℕ) : Type 0 where
+pub record IsDrawn (form : Form) (reader : Reading) (wrote writes : Option (List ℕ)) (status : ℕ) : Type 0 where
   pub trace : Contents
   pub text : List ℕ
   pub read : IsTraceRead reader trace
-  pub notes : Notes A
+  pub notes : Notes
   pub noted : AreNotes (lines read.text) notes
   pub draws : DrawsContents form notes trace text status
   pub written : Appends wrote writes text
 
 -- A trace was read, and only a part of its drawing could be written.
-pub record IsDrawingCut (A : Type 0) (form : Form) (reader : Reading) (wrote writes : Option (List ℕ)) : Type 0 where
+pub record IsDrawingCut (form : Form) (reader : Reading) (wrote writes : Option (List ℕ)) : Type 0 where
   pub trace : Contents
   pub text : List ℕ
   pub status : ℕ
   pub part : List ℕ
   pub rest : List ℕ
   pub read : IsTraceRead reader trace
-  pub notes : Notes A
+  pub notes : Notes
   pub noted : AreNotes (lines read.text) notes
   pub draws : DrawsContents form notes trace text status
   pub written : Appends wrote writes part
@@ -118,10 +118,10 @@ pub record IsDrawingStopped (reader : Reading) (fault : CliFault) : Type 0 where
   pub stops : StopsDrawing trace fault
 
 -- Why a drawing is not written, or not wholly: each fault has its cause.
-abbrev pub HasDrawingCause : (A : Type 0) → Form → Reading → (wrote writes : Option (List ℕ)) → CliFault → Type 0
-HasDrawingCause A form reader wrote writes Read = Unit {0}
-HasDrawingCause A form reader wrote writes Write = IsDrawingCut A form reader wrote writes
-HasDrawingCause A form reader wrote writes TooLong = StopsReader reader TooLong
-HasDrawingCause A form reader wrote writes (Trace fault) = IsFaulty reader.before reader.behind (Trace fault)
-HasDrawingCause A form reader wrote writes Memory = Unit {0}
-HasDrawingCause A form reader wrote writes fault = IsDrawingStopped reader fault
+abbrev pub HasDrawingCause : Form → Reading → (wrote writes : Option (List ℕ)) → CliFault → Type 0
+HasDrawingCause form reader wrote writes Read = Unit {0}
+HasDrawingCause form reader wrote writes Write = IsDrawingCut form reader wrote writes
+HasDrawingCause form reader wrote writes TooLong = StopsReader reader TooLong
+HasDrawingCause form reader wrote writes (Trace fault) = IsFaulty reader.before reader.behind (Trace fault)
+HasDrawingCause form reader wrote writes Memory = Unit {0}
+HasDrawingCause form reader wrote writes fault = IsDrawingStopped reader fault

@@ -1,6 +1,5 @@
 -- What is told of a program's text: of a run of the program, or of the text's fault.
 use Rattle.std.specs.Prelude.{ℕ, zero, suc, ◌≡◌, ◌≤◌, ◌⊎◌, Bool, true, false, Option, List, ◌++◌, length, flat_map, reverse, codes, decimal}
-use Rattle.std.specs.Global.{Global}
 use Rattle.std.specs.Io.KnownBytes.{Appends}
 use Rattle.std.specs.Ordering.{nat_cmp}
 use Rattle.std.specs.BTreeMap.{BTreeMap, get}
@@ -235,7 +234,7 @@ abbrev pub recorded_line : List ℕ → List ℕ
 recorded_line run = codes "recorded: " ++ run ++ codes "\n"
 
 -- what was recorded, by the notes
-abbrev pub recorded_text : Notes Global → List ℕ
+abbrev pub recorded_text : Notes → List ℕ
 recorded_text notes = flat_map recorded_line (kept_runs notes)
 
 -- how a trace that was judged came out, by its status
@@ -248,24 +247,24 @@ abbrev pub judged_text : ℕ → List ℕ
 judged_text count = codes "judged: " ++ counted count (codes "request") ++ codes "\n"
 
 -- Nothing was refused, or it is told what was.
-abbrev pub TellsEntries : Manner → Notes Global → TraceContents → List Entry → (told : List ℕ) → Type 0
+abbrev pub TellsEntries : Manner → Notes → TraceContents → List Entry → (told : List ℕ) → Type 0
 TellsEntries manner notes trace entries told =
     (IsClean (reverse entries) × (told ≡ clean_trace_words ++ judged_text (length entries))) ⊎
     ((IsClean (reverse entries) → ⊥) × IsTraceExplanation manner.is_painted manner.extent notes trace.known entries told)
 
 -- The text tells in the form of the trace, and what was recorded.
-abbrev pub RecordsTrace : RecordForm → Extent → Notes Global → TraceContents → List Entry → (told : List ℕ) → Type 0
+abbrev pub RecordsTrace : RecordForm → Extent → Notes → TraceContents → List Entry → (told : List ℕ) → Type 0
 RecordsTrace form extent notes trace entries told =
     RecordsEntries form extent (trace_setting false notes trace.known entries) entries
     (end_of_trace (ending_of (refusal_status entries)) notes) told
 
 -- the trace to a person, and what was recorded
-abbrev pub ExplainsTrace : Manner → Notes Global → TraceContents → List Entry → (told : List ℕ) → Type 0
+abbrev pub ExplainsTrace : Manner → Notes → TraceContents → List Entry → (told : List ℕ) → Type 0
 ExplainsTrace manner notes trace entries told =
     (verdict : List ℕ) × (_ : TellsEntries manner notes trace entries verdict) × (told ≡ verdict ++ recorded_text notes)
 
 -- The trace is told, and what was recorded.
-abbrev pub TellsTrace : Manner → Notes Global → TraceContents → List Entry → (told : List ℕ) → Type 0
+abbrev pub TellsTrace : Manner → Notes → TraceContents → List Entry → (told : List ℕ) → Type 0
 TellsTrace manner notes trace entries told =
     IsToldBy manner.rendering (ExplainsTrace manner notes trace entries told)
     (λ form. RecordsTrace form manner.extent notes trace entries told)
@@ -280,7 +279,7 @@ pub record IsTraceTold (manner : Manner) (text : List ℕ) (told : List ℕ) (st
   pub entries : List Entry
   pub history : reverse entries ≡ gate.history
   pub speaks : IsClean gate.history → SpeaksForOrders gate.shape gate.history
-  pub notes : Notes Global
+  pub notes : Notes
   pub are_notes : AreNotes (lines text) notes
   pub tells : TellsTrace manner notes trace entries told
   pub status_is : status ≡ refusal_status entries

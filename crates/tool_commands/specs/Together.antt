@@ -3,7 +3,7 @@ use Rattle.std.specs.Prelude.{ℕ, ◌≡◌, ◌==◌, ◌&&◌, Option, Some, 
 use Rattle.std.specs.List.{list_any}
 use Rattle.std.specs.Str.{bytes_eq}
 use Rattle.std.specs.String.{string_bytes}
-use Rattle.std.specs.Global.{Global, Vec}
+use Rattle.std.specs.Global.{Vec}
 use Rattle.text_words.specs.Text.{lines}
 use Rattle.text_words.specs.Values.{Contents as TraceContents}
 use Rattle.trace_text.specs.Grammar.{TextMeans as TraceMeans}
@@ -68,7 +68,7 @@ TellsTogether (Record form) extent together told = IsTextOf (in_form form (recor
 -- ---- one more
 
 -- What is found in a trace is added to what is told in this form, and nothing to the other.
-abbrev pub AddsFound : Manner → Notes Global → TraceContents → List Entry → (old new : Together) → Type 0
+abbrev pub AddsFound : Manner → Notes → TraceContents → List Entry → (old new : Together) → Type 0
 AddsFound manner notes trace entries old new =
     IsToldBy manner.rendering
     (AddsTrace manner.extent manner.file (trace_setting manner.is_painted notes trace.known entries) entries old.found new.found ×
@@ -86,7 +86,7 @@ pub record AddsText (manner : Manner) (text : List ℕ) (old new : Together) : T
   pub entries : List Entry
   pub history : reverse entries ≡ gate.history
   pub speaks : IsClean gate.history → SpeaksForOrders gate.shape gate.history
-  pub notes : Notes Global
+  pub notes : Notes
   pub are_notes : AreNotes (lines text) notes
   pub adds : AddsFound manner notes trace entries old new
   pub runs_is : new.runs ≡ with_runs old.runs (kept_runs notes)

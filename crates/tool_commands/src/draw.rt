@@ -15,11 +15,11 @@ use crate::replay::answer_all;
 use command_streams::{CliFault, Watched, parse_trace, read_text};
 use dag_drawing::{Drawing, Form, Names, draw, write_drawing};
 use race_gate::Entry;
-use std::alloc::Allocator;
+use std::alloc::Global;
 use std::io::{Read, Write};
 
 /// The drawing of entries, given from the oldest on.
-fn drawing_of<A: Allocator + Copy>(alloc: A, entries: &[Entry]) -> Result<Drawing<A>, CliFault>
+fn drawing_of(alloc: Global, entries: &[Entry]) -> Result<Drawing, CliFault>
     requires { IsLegalHistory (reverse entries.now) }
     ensures ok { IfOk result (IsDrawing entries.now) }
     ensures fault { IfErr result (StopsEntries entries.now) }
@@ -32,12 +32,12 @@ fn drawing_of<A: Allocator + Copy>(alloc: A, entries: &[Entry]) -> Result<Drawin
 }
 
 /// The text of the drawing of the trace that some bytes mean, and the exit status.
-fn draw_trace<A: Allocator + Copy>(
-    alloc: A,
+fn draw_trace(
+    alloc: Global,
     form: Form,
-    bytes: Vec<u8, A>,
-) -> Result<(Vec<u8, A>, u8), CliFault>
-    ensures ok { IfOk result (λ told. DrawsText A form bytes.items told.0.items told.1) }
+    bytes: Vec<u8>,
+) -> Result<(Vec<u8>, u8), CliFault>
+    ensures ok { IfOk result (λ told. DrawsText form bytes.items told.0.items told.1) }
     ensures fault { IfErr result (StopsText bytes.items) }
 {
     let notes = notes_of(alloc, bytes.as_slice())?;
@@ -67,17 +67,17 @@ fn draw_trace<A: Allocator + Copy>(
 /// than 10,000 strands have begun, which no drawing has, and [`CliFault::Memory`] where a growth was refused. Nothing is written then, but
 /// for the part that a failed write has taken. The reader is asked at most 67,108,865 times, as its `calls` tells where it began with room
 /// for more than these.
-pub fn draw_text<A: Allocator + Copy, R: Read, W: Write>(
-    alloc: A,
+pub fn draw_text<R: Read, W: Write>(
+    alloc: Global,
     form: Form,
     input: &mut Watched<R>,
     output: &mut Watched<W>,
 ) -> Result<u8, CliFault>
     requires reader { has_failed input.old ≡ false }
     requires writer { has_failed output.old ≡ false }
-    ensures answered { IfOk result (IsDrawn A form (reading (R.remaining (held input.old)) (R.remaining (held input.new)))
+    ensures answered { IfOk result (IsDrawn form (reading (R.remaining (held input.old)) (R.remaining (held input.new)))
         (W.contents (held output.old)) (W.contents (held output.new))) }
-    ensures fault { IfErr result (HasDrawingCause A form (reading (R.remaining (held input.old)) (R.remaining (held input.new)))
+    ensures fault { IfErr result (HasDrawingCause form (reading (R.remaining (held input.old)) (R.remaining (held input.new)))
         (W.contents (held output.old)) (W.contents (held output.new))) }
     ensures devices { LeavesDevices result (has_failed input.new) output.old output.new }
     ensures reads { IsCalledAtMost most_reads (calls_of input.old) (calls_of input.new) }

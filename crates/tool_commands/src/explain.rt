@@ -513,7 +513,7 @@ fn tell_source<D: Door + Sync, R: Threads + Wait + Sync>(
     rt: &R,
     alloc: Global,
     manner: &Manner<'_>,
-    source: &KeptText<Global>,
+    source: &KeptText,
     workers: usize,
     is_serial: bool,
     door: &D,

@@ -32,7 +32,7 @@ use race_gate::Gate;
 use race_pairs::Digest;
 use race_records::{Outcome as Ending, illegal_record, trace_record};
 use source_quotes::{Meant, push_count};
-use std::alloc::{AllocError, Allocator, Global};
+use std::alloc::{AllocError, Global};
 use text_buffers::{TextBuilder, push_words};
 use text_words::TextFault;
 use trace_notes::Notes;
@@ -61,7 +61,7 @@ fn explain_clean(alloc: Global, count: usize) -> Result<Vec<u8>, AllocError>
 fn explain_entries(
     alloc: Global,
     manner: &Manner<'_>,
-    notes: &Notes<Global>,
+    notes: &Notes,
     trace: &Trace<Global>,
     digest: &Digest,
 ) -> Result<Vec<u8>, AllocError>
@@ -113,7 +113,7 @@ fn ending_of(status: u8) -> Ending
 }
 
 /// The notes of a text. A text without `#` has none, and its lines are not looked at one by one.
-pub(crate) fn notes_of<A: Allocator + Copy>(alloc: A, text: &[u8]) -> Result<Notes<A>, AllocError>
+pub(crate) fn notes_of(alloc: Global, text: &[u8]) -> Result<Notes, AllocError>
     ensures { IfOk result (AreNotes (lines text.now)) }
 {
     let mut notes = Notes::new(alloc);
@@ -127,8 +127,8 @@ pub(crate) fn notes_of<A: Allocator + Copy>(alloc: A, text: &[u8]) -> Result<Not
 /// The notes of a text that is kept. Plain lines of requests are none.
 pub(crate) fn notes_of_kept(
     alloc: Global,
-    source: &KeptText<Global>,
-) -> Result<Notes<Global>, AllocError>
+    source: &KeptText,
+) -> Result<Notes, AllocError>
     requires { IsKept source.now }
     ensures { IfOk result (AreNotes (lines (text_of source.now))) }
 {
@@ -193,7 +193,7 @@ fn explain_stop(
 fn explain_kept_stop(
     alloc: Global,
     manner: &Manner<'_>,
-    source: &KeptText<Global>,
+    source: &KeptText,
     trace: &Trace<Global>,
     gate: &Gate<Global>,
     stop: Stop,
@@ -216,7 +216,7 @@ fn explain_kept_stop(
 fn verdict_text(
     alloc: Global,
     manner: &Manner<'_>,
-    notes: &Notes<Global>,
+    notes: &Notes,
     trace: &Trace<Global>,
     digest: &Digest,
 ) -> Result<Vec<u8>, AllocError>
@@ -234,7 +234,7 @@ fn verdict_text(
 fn tell_verdict(
     alloc: Global,
     manner: &Manner<'_>,
-    notes: &Notes<Global>,
+    notes: &Notes,
     trace: &Trace<Global>,
     digest: &Digest,
 ) -> Result<Vec<u8>, AllocError>
@@ -261,7 +261,7 @@ fn tell_verdict(
 fn explain_judged(
     alloc: Global,
     manner: &Manner<'_>,
-    source: &KeptText<Global>,
+    source: &KeptText,
     trace: &Trace<Global>,
     digest: &Digest,
 ) -> Result<(Vec<u8>, u8), AllocError>
@@ -278,7 +278,7 @@ fn explain_judged(
 /// What a person is told of a trace that a text means, in which nothing is refused among so many requests.
 fn explain_clean_trace(
     alloc: Global,
-    source: &KeptText<Global>,
+    source: &KeptText,
     trace: &Trace<Global>,
     count: usize,
 ) -> Result<Vec<u8>, AllocError>
@@ -306,7 +306,7 @@ pub(crate) enum Judged {
 pub(crate) fn judge_trace(
     alloc: Global,
     manner: &Manner<'_>,
-    source: &KeptText<Global>,
+    source: &KeptText,
     trace: &Trace<Global>,
 ) -> Result<Judged, CliFault>
     requires { KeepsTrace source.now (trace_contents trace.now) }
@@ -332,7 +332,7 @@ pub(crate) fn judge_trace(
 fn explain_trace(
     alloc: Global,
     manner: &Manner<'_>,
-    source: &KeptText<Global>,
+    source: &KeptText,
     trace: &Trace<Global>,
 ) -> Result<(Vec<u8>, u8), CliFault>
     requires { KeepsTrace source.now (trace_contents trace.now) }
@@ -355,7 +355,7 @@ fn explain_trace(
 fn explain_whole_text(
     alloc: Global,
     manner: &Manner<'_>,
-    source: &KeptText<Global>,
+    source: &KeptText,
     text: &[u8],
 ) -> Result<(Vec<u8>, u8), CliFault>
     requires whole { text_of source.now ≡ text.now }
@@ -378,7 +378,7 @@ fn explain_whole_text(
 pub(crate) fn explain_trace_text(
     alloc: Global,
     manner: &Manner<'_>,
-    source: &KeptText<Global>,
+    source: &KeptText,
 ) -> Result<(Vec<u8>, u8), CliFault>
     requires { IsKept source.now }
     ensures ok { IfOk result (λ told. IsTraceTold manner.now (text_of source.now) told.0.items told.1 ⊎ IsUnjudgedTold manner.now (text_of source.now) told.0.items told.1) }

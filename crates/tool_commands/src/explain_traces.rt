@@ -71,7 +71,7 @@ fn is_among(runs: &[String], run: &str) -> bool
 }
 
 /// Keeps what was recorded by some notes, each run once.
-fn keep_runs(alloc: Global, runs: &mut Vec<String>, notes: &Notes<Global>) -> Result<(), AllocError>
+fn keep_runs(alloc: Global, runs: &mut Vec<String>, notes: &Notes) -> Result<(), AllocError>
     ensures { OnOk result (map string_bytes runs.new.items ≡ with_runs (map string_bytes runs.old.items) (kept_runs notes.now)) }
 {
     for run in notes.runs() {
@@ -99,7 +99,7 @@ impl Traces {
         &mut self,
         alloc: Global,
         manner: &Manner<'_>,
-        notes: &Notes<Global>,
+        notes: &Notes,
         trace: &Trace<Global>,
         digest: &Digest,
     ) -> Result<(), AllocError>
@@ -130,7 +130,7 @@ impl Traces {
         &mut self,
         alloc: Global,
         manner: &Manner<'_>,
-        source: &KeptText<Global>,
+        source: &KeptText,
         trace: &Trace<Global>,
         digest: &Digest,
     ) -> Result<(), AllocError>
@@ -150,7 +150,7 @@ impl Traces {
         &mut self,
         alloc: Global,
         manner: &Manner<'_>,
-        source: &KeptText<Global>,
+        source: &KeptText,
         trace: &Trace<Global>,
     ) -> Result<Option<Vec<u8>>, CliFault>
         requires { KeepsTrace source.now (trace_contents trace.now) }
@@ -171,7 +171,7 @@ impl Traces {
         &mut self,
         alloc: Global,
         manner: &Manner<'_>,
-        source: &KeptText<Global>,
+        source: &KeptText,
         text: &[u8],
     ) -> Result<Option<Vec<u8>>, CliFault>
         requires whole { text_of source.now ≡ text.now }
@@ -197,7 +197,7 @@ impl Traces {
         &mut self,
         alloc: Global,
         manner: &Manner<'_>,
-        source: &KeptText<Global>,
+        source: &KeptText,
     ) -> Result<Option<Vec<u8>>, CliFault>
         requires { IsKept source.now }
         ensures ok { IfOk result (TakesText manner.now (text_of source.now) (together_of self.old) (together_of self.new)) }

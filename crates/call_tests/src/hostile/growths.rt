@@ -58,7 +58,6 @@ use crate::refusing::Refusing;
 use commands::Command;
 use std::alloc::Global;
 use std::process::Abort;
-use tool_commands::Form;
 
 /// A heap of which one growth is refused.
 type Heap = Refusing<Global>;
@@ -247,11 +246,6 @@ const COMMANDS: &[(Calls, &str)] = &[
     (Calls::Command(Command::Judge), "judge_stream"),
     (Calls::Command(Command::Elide), "elide_text"),
     (Calls::Command(Command::Replay), "replay_text"),
-    (Calls::Command(Command::Draw(Form::Dot)), "draw_text"),
-    (
-        Calls::Command(Command::Draw(Form::Svg)),
-        "draw_text of a picture",
-    ),
 ];
 
 #[test]

@@ -23,7 +23,7 @@ type Enclosed<'a> = (usize, &'a [usize]);
 const ADDS: Act = Bump(0, 1);
 
 /// The lineage of a gate's entries.
-fn lineage_of(alloc: Global, gate: &Gate<Global>) -> Result<Lineage<Global>, AllocError>
+fn lineage_of(alloc: Global, gate: &Gate<Global>) -> Result<Lineage, AllocError>
     ensures { IfOk result (λ lineage. IsLineage lineage gate.now.history) }
 {
     let entries = gate.history();
@@ -36,7 +36,7 @@ fn lineage_of(alloc: Global, gate: &Gate<Global>) -> Result<Lineage<Global>, All
 /// Whether the strands of the two entries part there.
 fn part_at(
     gate: &Gate<Global>,
-    lineage: &Lineage<Global>,
+    lineage: &Lineage,
     first: usize,
     second: usize,
     wanted: Told,
@@ -60,7 +60,7 @@ fn part_at(
 fn enclose(
     alloc: Global,
     gate: &Gate<Global>,
-    lineage: &Lineage<Global>,
+    lineage: &Lineage,
     number: usize,
     wanted: &[usize],
 ) -> bool

@@ -1,7 +1,6 @@
 //! Notes of a trace.
 
 use crate::checks::equal;
-use std::alloc::Global;
 use std::process::Abort;
 use std::test::Fail;
 use trace_notes::{Notes, Place, split_place};
@@ -103,13 +102,13 @@ fn places_are_taken_apart(rt: HostRuntime) {
     }
 }
 
-fn check_places(rt: &impl Abort, notes: &Notes<Global>, marks: &[Mark]) {
+fn check_places(rt: &impl Abort, notes: &Notes, marks: &[Mark]) {
     for (mark, wanted) in marks {
         equal(rt, mark, &parts(notes.place_of(*mark)), wanted);
     }
 }
 
-fn check_texts(rt: &impl Abort, notes: &Notes<Global>, cells: &[Cell]) {
+fn check_texts(rt: &impl Abort, notes: &Notes, cells: &[Cell]) {
     for (cell, wanted) in cells {
         equal(rt, cell, &notes.text_of(cell), wanted);
     }

@@ -146,7 +146,7 @@ const KEPT: &[(Long, bool)] = &[
 /// Whether the text is given again, and stands as it was read unless it is plain.
 fn is_kept(
     alloc: Global,
-    kept: &KeptText<Global>,
+    kept: &KeptText,
     text: &[u8],
     is_plain: bool,
 ) -> Result<bool, AllocError> {

@@ -19,18 +19,18 @@ pub returns-clause-answered : goal.returns-clause-answered
 returns-clause-answered g c =
     let bytes = c.in_ok-bytes.bytes.items in
     written c.draw_trace.result (g.W.Write.contents (held c.args.output.now)) (g.W.Write.contents (held c.write_told.new.output)) c.args.output.now c.write_told.new.output c.write_told.result c.write_told.ensures
-    (DrawsText _ c.args.form bytes) (IsDrawn _ c.args.form (reading (g.R.Read.remaining (held c.args.input.now)) (g.R.Read.remaining (held c.read_text.new.input)))
+    (DrawsText c.args.form bytes) (IsDrawn c.args.form (reading (g.R.Read.remaining (held c.args.input.now)) (g.R.Read.remaining (held c.read_text.new.input)))
     (g.W.Write.contents (held c.args.output.now)) (g.W.Write.contents (held c.write_told.new.output))) c.draw_trace.ensures.ok
-    (λ text status draws wrote. drawn_whole _ c.args.form _ _ _ bytes text status c.in_ok-bytes.ensures.ok draws wrote)
+    (λ text status draws wrote. drawn_whole c.args.form _ _ _ bytes text status c.in_ok-bytes.ensures.ok draws wrote)
 
 pub returns-clause-fault : goal.returns-clause-fault
 returns-clause-fault g c =
     let bytes = c.in_ok-bytes.bytes.items in
     stopped c.draw_trace.result (g.W.Write.contents (held c.args.output.now)) (g.W.Write.contents (held c.write_told.new.output)) c.args.output.now c.write_told.new.output c.write_told.result c.write_told.ensures
-    (DrawsText _ c.args.form bytes) (StopsText bytes) (HasDrawingCause _ c.args.form (reading (g.R.Read.remaining (held c.args.input.now)) (g.R.Read.remaining (held c.read_text.new.input)))
+    (DrawsText c.args.form bytes) (StopsText bytes) (HasDrawingCause c.args.form (reading (g.R.Read.remaining (held c.args.input.now)) (g.R.Read.remaining (held c.read_text.new.input)))
     (g.W.Write.contents (held c.args.output.now)) (g.W.Write.contents (held c.write_told.new.output))) c.draw_trace.ensures.ok c.draw_trace.ensures.fault
-    (λ fault stops. drawing_stops _ c.args.form _ _ _ bytes fault c.in_ok-bytes.ensures.ok stops)
-    (λ text status fault draws stops. drawing_cut _ c.args.form _ _ _ bytes text status fault c.in_ok-bytes.ensures.ok draws stops)
+    (λ fault stops. drawing_stops c.args.form _ _ _ bytes fault c.in_ok-bytes.ensures.ok stops)
+    (λ text status fault draws stops. drawing_cut c.args.form _ _ _ bytes text status fault c.in_ok-bytes.ensures.ok draws stops)
 
 pub returns-clause-devices : goal.returns-clause-devices
 returns-clause-devices g c =

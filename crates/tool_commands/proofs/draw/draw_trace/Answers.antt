@@ -7,29 +7,29 @@ use Rattle.tool_commands.proofs.DrawingCauses.{text_named, untraced, unanswered,
 use Rattle.tool_commands.proofs.draw.draw_trace.Goals as goal
 
 pub returns-in_err-trace-clause-fault : goal.returns-in_err-trace-clause-fault
-returns-in_err-trace-clause-fault g c =
+returns-in_err-trace-clause-fault c =
     let gone = err_from_is_err_and c.from_residual-in_err-trace.result c.from_residual-in_err-trace.ensures.1 in
     rw (gone.1, gone.2) (untraced c.args.bytes.items c.in_err-trace.field-0.0 c.in_err-trace.ensures.fault)
 
 pub returns-in_err-gate-clause-fault : goal.returns-in_err-gate-clause-fault
-returns-in_err-gate-clause-fault g c =
+returns-in_err-gate-clause-fault c =
     let gone = err_from_is_err_and c.from_residual-in_err-gate.result c.from_residual-in_err-gate.ensures.1 in
     rw (gone.1, gone.2) (unanswered c.args.bytes.items (contents c.in_ok-trace.trace) c.in_err-gate.field-0.0 c.in_ok-trace.ensures.ok c.in_err-gate.ensures.fault)
 
 pub drawing_of-requires : goal.drawing_of-requires
-drawing_of-requires g c = (
+drawing_of-requires c = (
   c.in_ok-gate.gate.shape,
   subst (λ (xs : List Entry). IsLegal c.in_ok-gate.gate.shape xs) (sym c.history-entries.ensures.entries) c.history-entries.ensures.judged.legal,
 )
 
 pub returns-in_err-drawing-clause-fault : goal.returns-in_err-drawing-clause-fault
-returns-in_err-drawing-clause-fault g c =
+returns-in_err-drawing-clause-fault c =
     let gone = err_from_is_err_and c.from_residual-in_err-drawing.result c.from_residual-in_err-drawing.ensures.1 in
     rw (gone.1, gone.2) (undrawn c.args.bytes.items (contents c.in_ok-trace.trace) c.in_ok-gate.gate c.history-entries.result.now c.in_err-drawing.field-0.0
     c.in_ok-trace.ensures.ok c.in_ok-gate.ensures.ok c.history-entries.ensures.entries c.in_err-drawing.ensures.fault)
 
 pub returns-clause-ok : goal.returns-clause-ok
-returns-clause-ok g c = record {
+returns-clause-ok c = record {
   trace = contents c.in_ok-trace.trace;
   means = c.in_ok-trace.ensures.ok;
   notes = c.in_ok-notes.notes;
