@@ -4,17 +4,17 @@ ghost use Rattle.std.specs.Prelude.{◌≡◌, ◌++◌, ◌∷◌, [], Some, No
 ghost use Rattle.text_buffers.specs.Builders.{Adds};
 
 use crate::push_number;
-use std::alloc::{AllocError, Allocator, Global};
+use std::alloc::{AllocError, Global};
 use std::marker::Model;
 
 /// A text that is built part by part. Contracts see the text so far, and None once there was no memory for a part.
-pub struct TextBuilder<A: Allocator = Global> {
-    bytes: Vec<u8, A>,
+pub struct TextBuilder {
+    bytes: Vec<u8>,
     is_short: bool,
 }
 
 /// Written out, so that what lets it go calls one function.
-impl<A: Allocator> Drop for TextBuilder<A> {
+impl Drop for TextBuilder {
     fn drop(self) {
         let TextBuilder {
             bytes: _,
@@ -23,7 +23,7 @@ impl<A: Allocator> Drop for TextBuilder<A> {
     }
 }
 
-impl<A: Allocator> Model for TextBuilder<A> {
+impl Model for TextBuilder {
     ghost use Rattle.std.specs.Prelude.{ℕ, List, Option};
     ghost use Rattle.text_buffers.specs.Builders.{text_so_far};
 
@@ -32,9 +32,9 @@ impl<A: Allocator> Model for TextBuilder<A> {
     ghost view = { λ text. text_so_far text.is_short text.bytes.items };
 }
 
-impl<A: Allocator> TextBuilder<A> {
+impl TextBuilder {
     /// An empty text.
-    pub fn new(alloc: A) -> TextBuilder<A>
+    pub fn new(alloc: Global) -> TextBuilder
         ensures { result ≡ Some [] }
     {
         TextBuilder {
@@ -79,7 +79,7 @@ impl<A: Allocator> TextBuilder<A> {
     }
 
     /// The whole text. Errors where there was no memory for a part.
-    pub fn end(self) -> Result<Vec<u8, A>, AllocError>
+    pub fn end(self) -> Result<Vec<u8>, AllocError>
         ensures { IfOk result (λ text. self ≡ Some text.items) }
     {
         let TextBuilder { bytes, is_short } = self;
