@@ -1,9 +1,6 @@
 //! What the gate keeps beside the history and the cells.
 
-ghost use Rattle.std.specs.Prelude.{◌≡◌, ◌<◌, ◌^◌, ℕ, List, [], length, IfOk, MatchResult};
-ghost use Rattle.model_strands.specs.History.{History};
-ghost use Rattle.sp_labels.specs.Roster.{Follows};
-ghost use Rattle.shadow_history.specs.Shadow.{Remembers};
+ghost use Rattle.std.specs.Prelude.{◌≡◌, ◌<◌, ◌^◌, ℕ, List, length, IfOk, MatchResult};
 ghost use Rattle.race_gate.specs.Kept.{IsKept, IsReady, OpensTracks, tracks_of, with_entry};
 ghost use Rattle.model_histories.specs.States.{GateState};
 ghost use Rattle.race_gate.specs.Accesses.{act_of_control, act_of_cell, act_of_reducer};
@@ -19,7 +16,6 @@ use sp_labels::Strands;
 use std::alloc::{AllocError, Allocator};
 
 /// What is kept of the strands, of the granted accesses of cells, and of the reducers.
-#[derive(Drop)]
 pub struct Tracks<A: Allocator + Clone> {
     /// The strands, as the acts of control so far left them.
     pub strands: Strands<A>,
@@ -29,19 +25,15 @@ pub struct Tracks<A: Allocator + Clone> {
     pub reducers: Option<ReducerTracks<A>>,
 }
 
-/// The strands before any act of control.
-fn opening_strands<A: Allocator + Clone>(alloc: &A) -> Result<Strands<A>, AllocError>
-    ensures { IfOk result (λ strands. Follows strands []) }
-{
-    Strands::new(alloc.clone()?)
-}
-
-/// No access of these cells.
-fn opening_shadow<A: Allocator + Clone>(alloc: &A, cells: u32) -> Result<Shadow<A>, AllocError>
-    ensures locations { IfOk result (λ shadow. length shadow ≡ cells) }
-    ensures empty { IfOk result (λ shadow. (history : History) → Remembers shadow history []) }
-{
-    Shadow::new(alloc.clone()?, cells)
+/// Written out, so that what lets tracks go calls one function.
+impl<A: Allocator + Clone> Drop for Tracks<A> {
+    fn drop(self) {
+        let Tracks {
+            strands: _,
+            shadow: _,
+            reducers: _,
+        } = self;
+    }
 }
 
 impl<A: Allocator + Clone> Tracks<A> {
@@ -51,8 +43,8 @@ impl<A: Allocator + Clone> Tracks<A> {
         ensures { IfOk result (λ tracks. OpensTracks (tracks_of tracks) cells monoids.now) }
     {
         Ok(Tracks {
-            strands: opening_strands(alloc)?,
-            shadow: opening_shadow(alloc, cells)?,
+            strands: Strands::new(alloc.clone()?)?,
+            shadow: Shadow::new(alloc.clone()?, cells)?,
             reducers: opening_reducers(alloc, monoids)?,
         })
     }
