@@ -7,7 +7,7 @@ ghost use Rattle.race_gate.specs.Accesses.{act_of_control, act_of_cell, act_of_r
 
 use crate::access::{CellAct, ControlAct, ReducerAct, Sort, sort_of};
 use crate::reducers::{ReducerTracks, opening_reducers};
-use crate::step::{control, judge_access, judge_reducer};
+use crate::step::{answer_to, control_with, judge_access};
 use model_accesses::Request;
 use model_histories::{Answer, GateFault};
 use model_reducers::Monoid;
@@ -94,7 +94,7 @@ impl<A: Allocator + Clone> Tracks<A> {
         )
     }
 
-    /// The same of a request whose act is this access of a reducer.
+    /// The same of a request whose act is this access of a reducer. Room for it is made first.
     #[inline(always)]
     pub fn access_reducer(
         &mut self,
@@ -108,7 +108,11 @@ impl<A: Allocator + Clone> Tracks<A> {
             (λ answer. IsKept (with_entry state request answer cells) (tracks_of self.new))
             (λ fault. (fault ≡ GateFault.Memory) × IsKept state (tracks_of self.new)) }
     {
-        judge_reducer(&mut self.reducers, number, request.strand, act)
+        let Some(reducers) = &mut self.reducers else {
+            unreachable!()
+        };
+        reducers.reserve_for(act)?;
+        Ok(reducers.answer(number, request.strand, act))
     }
 
     /// The same of a request whose act is this act of control.
@@ -125,6 +129,9 @@ impl<A: Allocator + Clone> Tracks<A> {
             (λ answer. IsKept (with_entry state request answer cells) (tracks_of self.new))
             (λ fault. (fault ≡ GateFault.Memory) × IsKept state (tracks_of self.new)) }
     {
-        control(&mut self.strands, &mut self.reducers, request.strand, act)
+        match &mut self.reducers {
+            None => answer_to(&mut self.strands, request.strand, act),
+            Some(reducers) => control_with(&mut self.strands, reducers, request.strand, act),
+        }
     }
 }
