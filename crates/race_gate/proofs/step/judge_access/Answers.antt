@@ -87,3 +87,12 @@ returns-clause-judged g c history accesses follows remembers =
       witness = names_nothing c.perform.result _ not;
       remembers = rw c.perform.ensures.granted (c.add.ensures.added history accesses follows remembers);
     })
+
+pub returns-clause-value : goal.returns-clause-value
+returns-clause-value g c = c.perform.ensures.value
+
+pub returns-clause-memory : goal.returns-clause-memory
+returns-clause-memory g c = c.perform.ensures.memory
+
+pub returns-clause-belongs : goal.returns-clause-belongs
+returns-clause-belongs g c = c.perform.ensures.belongs
