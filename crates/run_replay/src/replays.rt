@@ -193,7 +193,6 @@ fn follow_all<A: Allocator + Copy, B: Allocator, C: Allocator>(
     entries: &Entries<C>,
 ) -> Result<(), ReplayFault>
     requires judged { IsJudged (shape_in program.now) (reverse entries.now.items) }
-    requires within { length entries.now.items ≤ most_entries }
     requires opens { OpensIn program.now.functions (shape_in program.now)
         (opening (shape_in program.now) most_entries) table.old.slots.items table.old.homes.items table.old.places.items }
     ensures finished { OnOk result (IsFinishedRun program.now.functions (shape_in program.now) (reverse entries.now.items)) }
@@ -203,6 +202,9 @@ fn follow_all<A: Allocator + Copy, B: Allocator, C: Allocator>(
         IsStrange program.now.functions (shape_in program.now) entries.now.items number }
 {
     for at in 0..entries.len() {
+        if at >= MOST_ENTRIES as usize {
+            return Err(ReplayFault::Strange(MOST_ENTRIES + 1));
+        }
         match play_at(table, program, entries, at) {
             Ok(()) => {}
             Err(Misfit::Strange) => return Err(ReplayFault::Strange(at as u32 + 1)),
@@ -269,10 +271,6 @@ pub fn follow<A: Allocator + Copy, B: Allocator, C: Allocator>(
     ensures strange { (number : ℕ) → result ≡ Err (ReplayFault.Strange number) →
         IsStrange program.now.functions (shape_in program.now) entries.now.items number }
 {
-    if entries.len() > MOST_ENTRIES as usize {
-        let entries = entries.to_vec(alloc)?;
-        return replay(alloc, program, entries.as_slice());
-    }
     let mut table = FrameTable::open(alloc, program)?;
     let spawns = entries.len() / ENTRIES_OF_SPAWN;
     if spawns >= MANY_SPAWNS {
