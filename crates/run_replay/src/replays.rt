@@ -16,7 +16,7 @@ ghost use Rattle.run_replay.specs.Replays.{IsUnfinishedRun, IsStrange};
 ghost use Rattle.run_replay.specs.declared.replays.ReplayFault.{ReplayFault};
 ghost use Rattle.run_replay.specs.declared.turn.Misfit.{Misfit};
 
-use crate::frame_table::FrameTable;
+use crate::frame_table::{FrameTable, MANY_SPAWNS};
 use crate::turn::{Misfit, confirm};
 use packed_history::Entries;
 use program_text::Program;
@@ -217,9 +217,6 @@ fn follow_all<A: Allocator + Copy, B: Allocator, C: Allocator>(
     Ok(())
 }
 
-/// From how many spawns on a replay asks for their room at once.
-const MANY_SPAWNS: usize = 1_000;
-
 /// Few programs spawn more often than at every so many entries.
 const ENTRIES_OF_SPAWN: usize = 4;
 
@@ -250,9 +247,9 @@ pub fn replay<A: Allocator + Copy, B: Allocator>(
     let mut table = FrameTable::open(alloc, program)?;
     let mut core = core_of(alloc, program)?;
     let spawns = spawns_of(entries);
+    table.make_room(spawns);
     if spawns >= MANY_SPAWNS {
         core.make_room(spawns.saturating_mul(3));
-        table.make_room(spawns);
     }
     play_all(&mut core, &mut table, program, entries)
 }
@@ -272,9 +269,6 @@ pub fn follow<A: Allocator + Copy, B: Allocator, C: Allocator>(
         IsStrange program.now.functions (shape_in program.now) entries.now.items number }
 {
     let mut table = FrameTable::open(alloc, program)?;
-    let spawns = entries.len() / ENTRIES_OF_SPAWN;
-    if spawns >= MANY_SPAWNS {
-        table.make_room(spawns);
-    }
+    table.make_room(entries.len() / ENTRIES_OF_SPAWN);
     follow_all(&mut table, program, entries)
 }
