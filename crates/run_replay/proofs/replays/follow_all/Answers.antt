@@ -106,3 +106,15 @@ returns-then-not-is_finished-clause-strange g c = λ number e. absurd (unfinishe
 
 pub returns-then-not-is_finished-clause-finished : goal.returns-then-not-is_finished-clause-finished
 returns-then-not-is_finished-clause-finished g c = tt
+
+pub returns-then-at-clause-finished : goal.returns-then-at-clause-finished
+returns-then-at-clause-finished g c = tt
+
+pub returns-then-at-clause-unfinished : goal.returns-then-at-clause-unfinished
+returns-then-at-clause-unfinished g c = λ e. absurd (strange-unfinished (most_entries + 1) e)
+
+pub returns-in-Err-Strange-clause-finished : goal.returns-in-Err-Strange-clause-finished
+returns-in-Err-Strange-clause-finished g c = tt
+
+pub returns-in-Err-Memory-clause-finished : goal.returns-in-Err-Memory-clause-finished
+returns-in-Err-Memory-clause-finished g c = tt
