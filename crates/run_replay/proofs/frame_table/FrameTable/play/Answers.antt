@@ -68,3 +68,15 @@ returns-in_default-2-clause-ok g c =
     told c.vacate.result _
     (plays_same functions shape next _ c.vacate.new.self.slots.items _ c.vacate.new.self.homes.items _ c.vacate.new.self.places.items (ap (λ v. v.items) c.vacate.ensures.rest.0)
     (ap (λ v. v.items) c.vacate.ensures.rest.1) (ap (λ v. v.items) c.vacate.ensures.rest.2) calm)
+
+pub returns-in_default-clause-ok : goal.returns-in_default-clause-ok
+returns-in_default-clause-ok g c = λ state next plays entered. tt
+
+pub returns-in-Ok-clause-strange : goal.returns-in-Ok-clause-strange
+returns-in-Ok-clause-strange g c = λ state plays e. absurd (cc)
+
+pub returns-in-Err-clause-ok : goal.returns-in-Err-clause-ok
+returns-in-Err-clause-ok g c = λ state next plays entered. tt
+
+pub returns-in-Err-clause-strange : goal.returns-in-Err-clause-strange
+returns-in-Err-clause-strange g c = λ state plays e. absurd (cc)
