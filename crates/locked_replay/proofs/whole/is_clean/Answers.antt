@@ -25,5 +25,5 @@ returns-then-not-is_clean_answer g c =
     let here = get_or_from_slice_get items c.loop-at.at c.get.result c.get.result c.get.ensures in (
       (λ told. absurd (cc)),
       (λ clean. sym c.if-not-is_clean_answer.true
-      ∙ c.is_clean_answer.ensures.1 (subst (λ (entry : Entry). IsCleanAnswer entry.answer) here (clean c.loop-at.at c.get.result low))),
+          ∙ c.is_clean_answer.ensures.1 (subst (λ (entry : Entry). IsCleanAnswer entry.answer) here (clean c.loop-at.at c.get.result low))),
     )
