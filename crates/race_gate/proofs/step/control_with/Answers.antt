@@ -27,3 +27,6 @@ answer_to-requires-clause-numbers g c = c.requires.numbers
 
 pub returns-clause-ok : goal.returns-clause-ok
 returns-clause-ok g c = c.in_ok-answer.ensures.ok
+
+pub follow-requires-clause-room : goal.follow-requires-clause-room
+follow-requires-clause-room g c = c.in_ok-reserve_event.ensures.room

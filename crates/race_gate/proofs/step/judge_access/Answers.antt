@@ -96,3 +96,9 @@ returns-clause-memory g c = c.perform.ensures.memory
 
 pub returns-clause-belongs : goal.returns-clause-belongs
 returns-clause-belongs g c = c.perform.ensures.belongs
+
+pub perform-requires : goal.perform-requires
+perform-requires g c = c.requires.in_memory
+
+pub returns-in-Some-clause-locations : goal.returns-in-Some-clause-locations
+returns-in-Some-clause-locations g c = refl
