@@ -1,14 +1,10 @@
-use Rattle.std.proofs.Common.{◌≡◌, ◌++◌, ◌∷◌, [], length, Result, Ok, Err, sym, ap, subst, arith}
-use Rattle.std.specs.Prelude.{OnOk}
+use Rattle.std.proofs.Common.{◌≡◌, ◌++◌, ◌∷◌, [], length, sym, ap, subst, arith}
 use Rattle.run_replay.specs.Slots.{AreHeld}
+use Rattle.run_replay.proofs.Told.{always_ok}
 use Rattle.run_replay.proofs.frame_table.FrameTable.begin.Goals as goal
 
-told : {T E : Type 0} (r : Result T E) (P : Type 0) → P → OnOk r P
-told (Ok v) P p = p
-told (Err e) P p = tt
-
 pub returns-clause-frames : goal.returns-clause-frames
-returns-clause-frames g c = told c.add_places.result _ (λ frames held.
+returns-clause-frames g c = always_ok c.add_places.result _ (λ frames held.
     let counted : length frames ≡ c.len-child.result = omega (arith, held.counted, c.len-child.ensures) in
     let next = c.in_ok-home.ensures.frames frames counted held in
     let pushed = c.in_ok-push.ensures.items in
