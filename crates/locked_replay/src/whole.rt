@@ -21,7 +21,7 @@ use packed_history::Entries;
 use program_text::Program;
 use race_gate::{Answer, ShortGate};
 use run_replay::{ReplayFault, follow};
-use std::alloc::{Allocator, Global};
+use std::alloc::{AllocError, Allocator, Global};
 use std::sync::ledger::Ledger;
 
 /// A finished run of a program.
@@ -68,6 +68,18 @@ fn fault_of(fault: ReplayFault) -> RunFault
     }
 }
 
+/// Whether the gate is of the program's shape.
+fn has_its_shape<A: Allocator + Copy, B: Allocator>(
+    alloc: A,
+    program: &Program<B>,
+    gate: &ShortGate<A>,
+) -> Result<bool, AllocError>
+    ensures { IfOk result (λ same. IsTrue same ↔ gate.now.shape ≡ shape_in program.now) }
+{
+    let shape = program.shape(alloc)?;
+    Ok(is_same_shape(gate.shape(), &shape))
+}
+
 /// Whether the gate is of the program's shape, and its history a finished run of the program. Strange where not, and Memory at a refused
 /// growth.
 pub fn check_run<A: Allocator + Copy, B: Allocator>(
@@ -80,8 +92,7 @@ pub fn check_run<A: Allocator + Copy, B: Allocator>(
     ensures strange { result ≡ Err RunFault.Strange → IsStrangeGate program.now.functions (shape_in program.now) gate.now }
     ensures faults { ¬ (result ≡ Err RunFault.Limit) × ¬ (result ≡ Err RunFault.Stopped) × ¬ (result ≡ Err RunFault.Torn) }
 {
-    let shape = program.shape(alloc)?;
-    if !is_same_shape(gate.shape(), &shape) {
+    if !has_its_shape(alloc, program, gate)? {
         return Err(RunFault::Strange);
     }
     match follow(alloc, program, gate.kept_history()) {
@@ -105,8 +116,7 @@ pub fn whole_of_gate<A: Allocator + Copy, B: Allocator>(
     ensures strange { result ≡ Err RunFault.Strange → IsStrangeGate program.now.functions (shape_in program.now) gate }
     ensures faults { ¬ (result ≡ Err RunFault.Limit) × ¬ (result ≡ Err RunFault.Stopped) × ¬ (result ≡ Err RunFault.Torn) }
 {
-    let shape = program.shape(alloc)?;
-    if !is_same_shape(gate.shape(), &shape) {
+    if !has_its_shape(alloc, program, &gate)? {
         return Err(RunFault::Strange);
     }
     let (entries, memory) = gate.into_parts();

@@ -121,17 +121,6 @@ judges-next old new state request (Ok answer) fits faultless done = (
 )
 judges-next old new state request (Err fault) fits faultless done = (state, rw done.0 (refl, only-memory state request faultless), done.1)
 
--- the number of the entry is how many the core has counted since
-pub replied-next : (old new : CoreState) (state : GateState) (request : Request) (result : Result Answer GateFault) →
-    (next : GateState) × Judges state request (reply_with (old.entries + 1) request result) next × IsCoreOf new next →
-    (next : GateState) × Judges state request (reply_with new.entries request result) next × IsCoreOf new next
-replied-next old new state request (Ok answer) done = (
-  done.0,
-  record { faultless = done.1.faultless; asked = refl; number = done.2.counted; after = done.1.after },
-  done.2,
-)
-replied-next old new state request (Err fault) done = done
-
 -- ---- a gate: its core, and the list of its entries
 
 pub gate-shown : (core : CoreState) (items : List Entry) (state : GateState) → IsCoreOf core state → reverse items ≡ state.history →

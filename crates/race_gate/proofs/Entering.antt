@@ -265,11 +265,10 @@ books-still shape entries (Some old) (Some new) still kept = (still.monoids ∙ 
 
 -- a refusal of memory changes nothing
 pub kept-still : (state : GateState) (tracks : TracksState) (after : Roster) (others : Option Books) → IsKept state tracks →
-    ((history : History) → Follows tracks.strands history → Follows after history) → OptionKeepsStill tracks.reducers others →
-    IsKept state (record tracks { strands = after; reducers = others })
-kept-still state tracks after others kept follows still = record {
+    after ≡ tracks.strands → OptionKeepsStill tracks.reducers others → IsKept state (record tracks { strands = after; reducers = others })
+kept-still state tracks after others kept same still = record {
   right = kept.right;
-  follows = follows (control_part state.history) kept.follows;
+  follows = subst (λ strands. Follows strands (control_part state.history)) (sym same) kept.follows;
   remembers = kept.remembers;
   locations = kept.locations;
   within = kept.within;

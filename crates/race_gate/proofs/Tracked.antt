@@ -1,5 +1,5 @@
 -- A request that has no fault is answered.
-use Rattle.std.proofs.Common.{◌≡◌, ℕ, suc, ◌<◌, List, length, Option, Some, Result, Ok, Err, refl, sym, subst, arith}
+use Rattle.std.proofs.Common.{◌≡◌, ℕ, suc, ◌<◌, List, length, Option, Some, None, Result, Ok, Err, refl, sym, subst, arith}
 use Rattle.std.specs.Prelude.{MatchResult, IfOk, IfErr, OnErr, slice_index}
 use Rattle.model_accesses.specs.declared.request.Act.TheVariants.{Return}
 use Rattle.model_accesses.specs.declared.request.Request.{Request}
@@ -21,7 +21,7 @@ use Rattle.model_histories.specs.Legal.{Belongs}
 use Rattle.race_gate.specs.Accesses.{act_of_control, act_of_cell, act_of_reducer, access_of, reducer_of}
 use Rattle.model_races.specs.Memory.{effect_on_cell}
 use Rattle.model_races.specs.Verdicts.{IfValue}
-use Rattle.race_gate.specs.Books.{Books, answered_act, OptionKeepsStill, OptionKeepsOn, OptionKeepsRunning, OptionHasReducer, OptionAnswersAccess}
+use Rattle.race_gate.specs.Books.{Books, KeepsStill, KeepsOn, answered_act, OptionKeepsStill, OptionKeepsOn, OptionKeepsRunning, OptionHasReducer, OptionAnswersAccess}
 use Rattle.model_histories.specs.States.{GateState}
 use Rattle.race_gate.specs.Kept.{TracksState, IsKept, IsReady, with_entry}
 use Rattle.race_gate.specs.Steps.{FollowsWith, GoesOn, numbered_access, IsJudgedBy, TakesPlace}
@@ -78,19 +78,42 @@ module _ (state : GateState) (tracks : TracksState) (memory : List ℕ) (request
       (subst (λ asked. TakesPlace (effect_on_cell asked answer) state.memory cells) (sym is)
       (subst (λ xs. TakesPlace (effect_on_cell (act_of_cell act) answer) xs cells) ready.cells takes)) len
 
-  pub answers-control : (act : ControlAct) (after : Roster) (others : Option Books) (result : Result Answer GateFault) → request.act ≡ act_of_control act →
+  answers-control : (act : ControlAct) (after : Roster) (others : Option Books) (result : Result Answer GateFault) → request.act ≡ act_of_control act →
       IfOk result (λ answer. (history : History) → Follows tracks.strands history → GoesOn history request.strand (act_of_control act) answer after) →
       IfOk result (λ answer. (event : Event) → event_between request.strand (act_of_control act) answer ≡ Some event → OptionKeepsOn tracks.reducers others event) →
-      IfErr result (λ fault. fault ≡ Memory) → OnErr result ((history : History) → Follows tracks.strands history → Follows after history) →
-      OnErr result (OptionKeepsStill tracks.reducers others) → MatchResult result
+      IfErr result (λ fault. fault ≡ Memory) → OnErr result (after ≡ tracks.strands) → OnErr result (OptionKeepsStill tracks.reducers others) →
+      MatchResult result
       (λ answer. IsKept (with_entry state request answer memory) (record tracks { strands = after; reducers = others }))
       (λ fault. (fault ≡ Memory) × IsKept state (record tracks { strands = after; reducers = others }))
-  answers-control act after others (Ok answer) is goes on none follows still =
+  answers-control act after others (Ok answer) is goes on none same still =
       subst (λ cells. IsKept (with_entry state request answer cells) (record tracks { strands = after; reducers = others })) (sym ready.cells)
       (entered-control state tracks ready.kept (record { request = request; answer = answer }) ready.faultless act after others is
       (subst (λ asked. GoesOn (control_part state.history) request.strand asked answer after) (sym is) (goes _ ready.kept.follows))
       (subst (λ asked. (event : Event) → event_between request.strand asked answer ≡ Some event → OptionKeepsOn tracks.reducers others event) (sym is) on))
-  answers-control act after others (Err fault) is goes on none follows still = (none, kept-still state tracks after others ready.kept follows still)
+  answers-control act after others (Err fault) is goes on none same still = (none, kept-still state tracks after others ready.kept same still)
+
+  -- the same where the program has no reducers, and where it has some
+  pub answers-strands : (act : ControlAct) (after : Roster) (result : Result Answer GateFault) → request.act ≡ act_of_control act → tracks.reducers ≡ None →
+      IfOk result (λ answer. (history : History) → Follows tracks.strands history → GoesOn history request.strand (act_of_control act) answer after) →
+      IfErr result (λ fault. fault ≡ Memory) → OnErr result (after ≡ tracks.strands) → MatchResult result
+      (λ answer. IsKept (with_entry state request answer memory) (record tracks { strands = after }))
+      (λ fault. (fault ≡ Memory) × IsKept state (record tracks { strands = after }))
+  answers-strands act after (Ok answer) is without goes none same =
+      answers-control act after tracks.reducers (Ok answer) is goes (λ event between. subst (λ books. OptionKeepsOn books books event) (sym without) tt) tt tt tt
+  answers-strands act after (Err fault) is without goes none same =
+      answers-control act after tracks.reducers (Err fault) is tt tt none same (subst (λ books. OptionKeepsStill books books) (sym without) tt)
+
+  pub answers-with : (act : ControlAct) (after : Roster) (books others : Books) (result : Result Answer GateFault) → request.act ≡ act_of_control act →
+      tracks.reducers ≡ Some books →
+      IfOk result (λ answer. (history : History) → Follows tracks.strands history → GoesOn history request.strand (act_of_control act) answer after) →
+      IfOk result (λ answer. (event : Event) → event_between request.strand (act_of_control act) answer ≡ Some event → KeepsOn books others event) →
+      IfErr result (λ fault. fault ≡ Memory) → OnErr result (after ≡ tracks.strands) → OnErr result (KeepsStill books others) → MatchResult result
+      (λ answer. IsKept (with_entry state request answer memory) (record tracks { strands = after; reducers = Some others }))
+      (λ fault. (fault ≡ Memory) × IsKept state (record tracks { strands = after; reducers = Some others }))
+  answers-with act after books others result is there goes on none same still =
+      answers-control act after (Some others) result is goes
+      (subst (λ kept. IfOk result (λ answer. (event : Event) → event_between request.strand (act_of_control act) answer ≡ Some event → OptionKeepsOn kept (Some others) event)) (sym there) on)
+      none same (subst (λ kept. OnErr result (OptionKeepsStill kept (Some others))) (sym there) still)
 
   pub answers-reducer : (act : ReducerAct) (others : Option Books) (result : Result Answer GateFault) → request.act ≡ act_of_reducer act →
       IfOk result (λ answer. OptionAnswersAccess tracks.reducers others (answered_act number request.strand (act_of_reducer act) answer)) →
@@ -101,7 +124,7 @@ module _ (state : GateState) (tracks : TracksState) (memory : List ℕ) (request
       subst (λ cells. IsKept (with_entry state request answer cells) (record tracks { reducers = others })) (sym ready.cells)
       (entered-reducer state tracks ready.kept (record { request = request; answer = answer }) ready.faultless act others number numbered is
       (subst (λ asked. OptionAnswersAccess tracks.reducers others (answered_act number request.strand asked answer)) (sym is) answers))
-  answers-reducer act others (Err fault) is answers none still = (none, kept-still state tracks tracks.strands others ready.kept (λ history follows. follows) still)
+  answers-reducer act others (Err fault) is answers none still = (none, kept-still state tracks tracks.strands others ready.kept refl still)
 
 -- cells that were not handed on are as they were
 pub with-same-cells : (P : Answer → Type 0) (K : Type 0) (cells : List ℕ) (result : Result Answer GateFault) →

@@ -14,9 +14,9 @@ ghost use Rattle.model_histories.specs.Replies.{Judges, reply_of};
 ghost use Rattle.model_histories.specs.declared.reply.Reply.TheVariants.{Done};
 ghost use Rattle.model_histories.specs.Admission.{IsAdmitted, IsOfTheGate};
 ghost use Rattle.race_gate.specs.Cores.{IsCoreOf, IsCore, reply_with};
-ghost use Rattle.race_gate.specs.Accesses.{act_of_control, act_of_cell, act_of_reducer};
+ghost use Rattle.race_gate.specs.Accesses.{act_of_cell, act_of_reducer};
 
-use crate::access::{CellAct, ControlAct, ReducerAct};
+use crate::access::{CellAct, ReducerAct};
 use crate::step::is_in_range;
 use crate::tracks::Tracks;
 use model_accesses::{Act, Request};
@@ -306,27 +306,13 @@ impl<A: Allocator + Clone> Core<A> {
         })
     }
 
-    /// As [`Core::judge`], of a request whose act is this act of control.
+    /// Answers a request as [`Core::judge`] does, and gives the reply of a gate that judged the same requests.
     #[inline(always)]
-    fn judge_control(&mut self, request: Request, act: ControlAct) -> Result<Answer, GateFault>
-        requires { request.act ≡ act_of_control act }
+    pub fn reply(&mut self, request: Request) -> Reply
         ensures { (state : GateState) → IsCoreOf self.old state →
-            (next : GateState) × Judges state request (reply_with (self.old.entries + 1) request result) next × IsCoreOf self.new next }
+            (next : GateState) × Judges state request result next × IsCoreOf self.new next }
     {
-        self.check(request)?;
-        let number = self.entries + 1;
-        let answer = self.tracks.control(number, request, act)?;
-        self.entries = number;
-        self.finished = is_end(answer);
-        Ok(answer)
-    }
-
-    /// The reply that tells what the newest request was answered, or its fault.
-    #[inline(always)]
-    fn reply_of(&self, request: Request, judged: Result<Answer, GateFault>) -> Reply
-        ensures { result ≡ reply_with self.now.entries request judged }
-    {
-        match judged {
+        match self.judge(request) {
             Ok(answer) => Reply::Done(Receipt {
                 number: self.entries,
                 request,
@@ -334,27 +320,5 @@ impl<A: Allocator + Clone> Core<A> {
             }),
             Err(fault) => Reply::Illegal(fault),
         }
-    }
-
-    /// Answers a request as [`Core::judge`] does, and gives the reply of a gate that judged the same requests.
-    #[inline(always)]
-    pub fn reply(&mut self, request: Request) -> Reply
-        ensures { (state : GateState) → IsCoreOf self.old state →
-            (next : GateState) × Judges state request result next × IsCoreOf self.new next }
-    {
-        let judged = self.judge(request);
-        self.reply_of(request, judged)
-    }
-
-    /// As [`Core::reply`], of a request whose act is this act of control. It is code of its own, which a caller that knows the sort of its
-    /// requests makes a shorter way of.
-    #[inline(always)]
-    pub fn reply_to_control(&mut self, request: Request, act: ControlAct) -> Reply
-        requires { request.act ≡ act_of_control act }
-        ensures { (state : GateState) → IsCoreOf self.old state →
-            (next : GateState) × Judges state request result next × IsCoreOf self.new next }
-    {
-        let judged = self.judge_control(request, act);
-        self.reply_of(request, judged)
     }
 }

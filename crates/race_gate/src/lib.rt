@@ -23,7 +23,7 @@ mod replies;
 mod step;
 mod tracks;
 
-pub use access::{CellAct, ControlAct, ReducerAct};
+pub use access::{CellAct, ReducerAct};
 pub use gate::{Gate, ShortGate};
 pub use history::{History, NewHistory};
 pub use judging::Core;

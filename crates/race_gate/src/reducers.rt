@@ -50,12 +50,12 @@ pub fn opening_reducers<A: Allocator + Clone>(
     if monoids.is_empty() {
         return Ok(None);
     }
-    Ok(Some(ReducerTracks::new(alloc.clone()?, monoids)?))
+    Ok(Some(ReducerTracks::new(alloc, monoids)?))
 }
 
 impl<A: Allocator + Clone> ReducerTracks<A> {
-    /// ReducerTracks that no strand has touched.
-    pub fn new(alloc: A, monoids: &[Monoid]) -> Result<ReducerTracks<A>, AllocError>
+    /// Reducers that no strand has touched.
+    fn new(alloc: &A, monoids: &[Monoid]) -> Result<ReducerTracks<A>, AllocError>
         requires { length monoids.now < 2 ^ 32 }
         ensures keeps { IfOk result (λ reducers. Keeps reducers [] []) }
         ensures monoids { IfOk result (λ reducers. reducers.views.monoids ≡ monoids.now) }
@@ -63,7 +63,7 @@ impl<A: Allocator + Clone> ReducerTracks<A> {
         Ok(ReducerTracks {
             branches: Branches::new(alloc.clone()?)?,
             reads: ReadPeers::new(alloc.clone()?, monoids.len() as u32)?,
-            views: Views::new(alloc, monoids)?,
+            views: Views::new(alloc.clone()?, monoids)?,
         })
     }
 

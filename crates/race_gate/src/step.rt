@@ -42,35 +42,10 @@ pub fn is_in_range<A: Allocator>(shape: &Shape<A>, act: Act) -> bool
     }
 }
 
-/// Lets a running strand spawn, sync, call or return. Where memory is refused, nothing changes.
+/// Lets a running strand spawn, sync, call or return in a program with reducers. Room for their part is made first. Where memory is
+/// refused, nothing changes.
 #[inline(always)]
-pub fn control<A: Allocator + Clone>(
-    strands: &mut Strands<A>,
-    reducers: &mut Option<ReducerTracks<A>>,
-    strand: u32,
-    act: ControlAct,
-) -> Result<Answer, GateFault>
-    requires follows { FollowsWith strands.old reducers.old }
-    requires runs { Runs strands.old strand }
-    requires synced { act ≡ ControlAct.Return → (history : History) → Follows strands.old history → IsSynced (stack history strand) }
-    requires numbers { (history : History) → Follows strands.old history → HasFewLeft history → ⊥ }
-    ensures ok { IfOk result (λ answer.
-        (history : History) → Follows strands.old history → GoesOn history strand (act_of_control act) answer strands.new) }
-    ensures books { IfOk result (λ answer.
-        (event : Event) → event_between strand (act_of_control act) answer ≡ Some event → OptionKeepsOn reducers.old reducers.new event) }
-    ensures err { IfErr result (λ fault. fault ≡ GateFault.Memory) }
-    ensures still { OnErr result ((history : History) → Follows strands.old history → Follows strands.new history) }
-    ensures books_still { OnErr result (OptionKeepsStill reducers.old reducers.new) }
-{
-    match reducers {
-        None => answer_to(strands, strand, act),
-        Some(reducers) => control_with(strands, reducers, strand, act),
-    }
-}
-
-/// The same in a program with reducers. Room for their part is made first.
-#[inline(always)]
-fn control_with<A: Allocator + Clone>(
+pub fn control_with<A: Allocator + Clone>(
     strands: &mut Strands<A>,
     reducers: &mut ReducerTracks<A>,
     strand: u32,
@@ -96,7 +71,7 @@ fn control_with<A: Allocator + Clone>(
 
 /// The answer to an act of control, with which the strands go on. Where memory is refused, nothing changes.
 #[inline(always)]
-fn answer_to<A: Allocator>(
+pub fn answer_to<A: Allocator>(
     strands: &mut Strands<A>,
     strand: u32,
     act: ControlAct,
@@ -234,27 +209,4 @@ fn perform(memory: &mut [u64], act: CellAct) -> Answer
             Answer::Granted
         }
     }
-}
-
-/// Judges an access of a reducer by a running strand, and does it where it is granted. Room for it is made first, and where it is
-/// refused nothing changes. `number` is that of its entry.
-#[inline(always)]
-pub fn judge_reducer<A: Allocator + Clone>(
-    reducers: &mut Option<ReducerTracks<A>>,
-    number: u32,
-    strand: u32,
-    act: ReducerAct,
-) -> Result<Answer, GateFault>
-    requires in_range { OptionHasReducer reducers.old (reducer_of act) }
-    requires keeps { OptionKeepsRunning reducers.old strand }
-    ensures ok { IfOk result (λ answer.
-        OptionAnswersAccess reducers.old reducers.new (answered_act number strand (act_of_reducer act) answer)) }
-    ensures err { IfErr result (λ fault. fault ≡ GateFault.Memory) }
-    ensures still { OnErr result (OptionKeepsStill reducers.old reducers.new) }
-{
-    let Some(reducers) = reducers else {
-        unreachable!()
-    };
-    reducers.reserve_for(act)?;
-    Ok(reducers.answer(number, strand, act))
 }

@@ -1,16 +1,13 @@
 //! What the gate keeps beside the history and the cells.
 
-ghost use Rattle.std.specs.Prelude.{◌≡◌, ◌<◌, ◌^◌, ℕ, List, [], length, IfOk, MatchResult};
-ghost use Rattle.model_strands.specs.History.{History};
-ghost use Rattle.sp_labels.specs.Roster.{Follows};
-ghost use Rattle.shadow_history.specs.Shadow.{Remembers};
+ghost use Rattle.std.specs.Prelude.{◌≡◌, ◌<◌, ◌^◌, ℕ, List, length, IfOk, MatchResult};
 ghost use Rattle.race_gate.specs.Kept.{IsKept, IsReady, OpensTracks, tracks_of, with_entry};
 ghost use Rattle.model_histories.specs.States.{GateState};
 ghost use Rattle.race_gate.specs.Accesses.{act_of_control, act_of_cell, act_of_reducer};
 
 use crate::access::{CellAct, ControlAct, ReducerAct, Sort, sort_of};
 use crate::reducers::{ReducerTracks, opening_reducers};
-use crate::step::{control, judge_access, judge_reducer};
+use crate::step::{answer_to, control_with, judge_access};
 use model_accesses::Request;
 use model_histories::{Answer, GateFault};
 use model_reducers::Monoid;
@@ -19,7 +16,6 @@ use sp_labels::Strands;
 use std::alloc::{AllocError, Allocator};
 
 /// What is kept of the strands, of the granted accesses of cells, and of the reducers.
-#[derive(Drop)]
 pub struct Tracks<A: Allocator + Clone> {
     /// The strands, as the acts of control so far left them.
     pub strands: Strands<A>,
@@ -29,19 +25,15 @@ pub struct Tracks<A: Allocator + Clone> {
     pub reducers: Option<ReducerTracks<A>>,
 }
 
-/// The strands before any act of control.
-fn opening_strands<A: Allocator + Clone>(alloc: &A) -> Result<Strands<A>, AllocError>
-    ensures { IfOk result (λ strands. Follows strands []) }
-{
-    Strands::new(alloc.clone()?)
-}
-
-/// No access of these cells.
-fn opening_shadow<A: Allocator + Clone>(alloc: &A, cells: u32) -> Result<Shadow<A>, AllocError>
-    ensures locations { IfOk result (λ shadow. length shadow ≡ cells) }
-    ensures empty { IfOk result (λ shadow. (history : History) → Remembers shadow history []) }
-{
-    Shadow::new(alloc.clone()?, cells)
+/// Written out, so that what lets tracks go calls one function.
+impl<A: Allocator + Clone> Drop for Tracks<A> {
+    fn drop(self) {
+        let Tracks {
+            strands: _,
+            shadow: _,
+            reducers: _,
+        } = self;
+    }
 }
 
 impl<A: Allocator + Clone> Tracks<A> {
@@ -51,8 +43,8 @@ impl<A: Allocator + Clone> Tracks<A> {
         ensures { IfOk result (λ tracks. OpensTracks (tracks_of tracks) cells monoids.now) }
     {
         Ok(Tracks {
-            strands: opening_strands(alloc)?,
-            shadow: opening_shadow(alloc, cells)?,
+            strands: Strands::new(alloc.clone()?)?,
+            shadow: Shadow::new(alloc.clone()?, cells)?,
             reducers: opening_reducers(alloc, monoids)?,
         })
     }
@@ -102,7 +94,7 @@ impl<A: Allocator + Clone> Tracks<A> {
         )
     }
 
-    /// The same of a request whose act is this access of a reducer.
+    /// The same of a request whose act is this access of a reducer. Room for it is made first.
     #[inline(always)]
     pub fn access_reducer(
         &mut self,
@@ -116,7 +108,11 @@ impl<A: Allocator + Clone> Tracks<A> {
             (λ answer. IsKept (with_entry state request answer cells) (tracks_of self.new))
             (λ fault. (fault ≡ GateFault.Memory) × IsKept state (tracks_of self.new)) }
     {
-        judge_reducer(&mut self.reducers, number, request.strand, act)
+        let Some(reducers) = &mut self.reducers else {
+            unreachable!()
+        };
+        reducers.reserve_for(act)?;
+        Ok(reducers.answer(number, request.strand, act))
     }
 
     /// The same of a request whose act is this act of control.
@@ -133,6 +129,9 @@ impl<A: Allocator + Clone> Tracks<A> {
             (λ answer. IsKept (with_entry state request answer cells) (tracks_of self.new))
             (λ fault. (fault ≡ GateFault.Memory) × IsKept state (tracks_of self.new)) }
     {
-        control(&mut self.strands, &mut self.reducers, request.strand, act)
+        match &mut self.reducers {
+            None => answer_to(&mut self.strands, request.strand, act),
+            Some(reducers) => control_with(&mut self.strands, reducers, request.strand, act),
+        }
     }
 }

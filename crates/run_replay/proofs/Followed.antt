@@ -28,7 +28,7 @@ abbrev pub with_one : GateState → Entry → GateState
 with_one state entry = record state { history = entry ∷ state.history }
 
 pub entered_next : (shape : Shape) (entries : List Entry) (index : ℕ) (state : GateState) (d : Entry) → IsJudged shape (reverse entries) →
-    length entries ≤ most_entries → index < length entries → state.shape ≡ shape → state.limit ≡ most_entries → state.history ≡ reverse (take index entries) →
+    index < most_entries → index < length entries → state.shape ≡ shape → state.limit ≡ most_entries → state.history ≡ reverse (take index entries) →
     IsEntered (get_or entries index d) state (with_one state (get_or entries index d))
 entered_next shape entries index state d judged within below shape_is limit_is history =
     let entry = get_or entries index d in
@@ -49,7 +49,7 @@ so_many entries index history below is = ap length is ∙ length-reverse (take i
 
 -- what holds of each gate that has entered the next entry holds of one
 pub one_further : (shape : Shape) (entries : List Entry) (index : ℕ) (state : GateState) (d : Entry) → IsJudged shape (reverse entries) →
-    length entries ≤ most_entries → index < length entries → state.shape ≡ shape → state.limit ≡ most_entries → state.history ≡ reverse (take index entries) →
+    index < most_entries → index < length entries → state.shape ≡ shape → state.limit ≡ most_entries → state.history ≡ reverse (take index entries) →
     (P : GateState → Type 0) → ((next : GateState) → IsEntered (get_or entries index d) state next → P next) →
     (next : GateState) × P next × (next.history ≡ reverse (take (index + 1) entries))
 one_further shape entries index state d judged within below shape_is limit_is history P holds =

@@ -1,6 +1,6 @@
 -- What a replay tells at its end.
 use Rattle.std.proofs.Common.{◌≡◌, ◌⊎◌, ℕ, zero, suc, ◌+◌, ◌<◌, List, [], ◌∷◌, ◌++◌, length, reverse, take, drop, append_assoc, Result, Ok, Err, refl, sym, ◌∙◌, ap, subst, arith}
-use Rattle.std.specs.Prelude.{get_or}
+use Rattle.std.specs.Prelude.{get_or, OnOk}
 use Rattle.std.proofs.lemmas.List.{take_more, take-append-drop, reverse-append, length-reverse}
 use Rattle.std.proofs.Math.Seq.{take-length}
 use Rattle.model_histories.specs.declared.answer.Entry.{Entry}
@@ -17,6 +17,11 @@ use Rattle.run_replay.specs.declared.replays.ReplayFault.{ReplayFault}
 use Rattle.run_replay.specs.declared.replays.ReplayFault.TheVariants.{Strange, Unfinished, Memory}
 use Rattle.run_replay.specs.Replays.{IsUnfinishedRun, IsStrange}
 use Rattle.run_replay.proofs.Openings.{plays_run, told}
+
+-- what holds anyway holds at Ok
+pub always_ok : {T E : Type 0} (result : Result T E) (P : Type 0) → P → OnOk result P
+always_ok (Ok value) P holds = holds
+always_ok (Err fault) P holds = tt
 
 one_later : {A : Type 0} (xs : List A) (index : ℕ) (x : A) → index < length xs → x ≡ get_or xs index x → take (index + 1) xs ≡ take index xs ++ x ∷ []
 one_later xs index x below is = take_more xs index x below ∙ ap (λ y. take index xs ++ y ∷ []) (sym is)

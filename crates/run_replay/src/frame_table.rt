@@ -41,6 +41,9 @@ pub struct FrameTable<A: Allocator + Copy> {
     free: Vec<usize, A>,
 }
 
+/// From how many spawns on their room is asked for at once.
+pub const MANY_SPAWNS: usize = 1_000;
+
 /// A list of one item.
 fn list_of_one<T: Drop, A: Allocator>(alloc: A, item: T) -> Result<Vec<T, A>, AllocError>
     ensures { IfOk result (λ list. list.items ≡ item ∷ []) }
@@ -136,14 +139,16 @@ impl<A: Allocator + Copy> FrameTable<A> {
         })
     }
 
-    /// Asks for room for so many more spawns. It is a hint, which changes nothing that is seen.
+    /// Asks for room for so many more spawns, where they are many. It is a hint, which changes nothing that is seen.
     pub fn make_room(&mut self, spawns: usize)
         ensures slots { self.new.slots ≡ self.old.slots }
         ensures homes { self.new.homes.items ≡ self.old.homes.items }
         ensures places { self.new.places.items ≡ self.old.places.items }
     {
-        let _homes = self.homes.reserve(spawns);
-        let _places = self.places.reserve(spawns.saturating_mul(3));
+        if spawns >= MANY_SPAWNS {
+            let _homes = self.homes.reserve(spawns);
+            let _places = self.places.reserve(spawns.saturating_mul(3));
+        }
     }
 
     /// A slot whose frame has ended, if one is known.

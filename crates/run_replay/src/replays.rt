@@ -16,7 +16,7 @@ ghost use Rattle.run_replay.specs.Replays.{IsUnfinishedRun, IsStrange};
 ghost use Rattle.run_replay.specs.declared.replays.ReplayFault.{ReplayFault};
 ghost use Rattle.run_replay.specs.declared.turn.Misfit.{Misfit};
 
-use crate::frame_table::FrameTable;
+use crate::frame_table::{FrameTable, MANY_SPAWNS};
 use crate::turn::{Misfit, confirm};
 use packed_history::Entries;
 use program_text::Program;
@@ -193,7 +193,6 @@ fn follow_all<A: Allocator + Copy, B: Allocator, C: Allocator>(
     entries: &Entries<C>,
 ) -> Result<(), ReplayFault>
     requires judged { IsJudged (shape_in program.now) (reverse entries.now.items) }
-    requires within { length entries.now.items ≤ most_entries }
     requires opens { OpensIn program.now.functions (shape_in program.now)
         (opening (shape_in program.now) most_entries) table.old.slots.items table.old.homes.items table.old.places.items }
     ensures finished { OnOk result (IsFinishedRun program.now.functions (shape_in program.now) (reverse entries.now.items)) }
@@ -203,6 +202,9 @@ fn follow_all<A: Allocator + Copy, B: Allocator, C: Allocator>(
         IsStrange program.now.functions (shape_in program.now) entries.now.items number }
 {
     for at in 0..entries.len() {
+        if at >= MOST_ENTRIES as usize {
+            return Err(ReplayFault::Strange(MOST_ENTRIES + 1));
+        }
         match play_at(table, program, entries, at) {
             Ok(()) => {}
             Err(Misfit::Strange) => return Err(ReplayFault::Strange(at as u32 + 1)),
@@ -214,9 +216,6 @@ fn follow_all<A: Allocator + Copy, B: Allocator, C: Allocator>(
     }
     Ok(())
 }
-
-/// From how many spawns on a replay asks for their room at once.
-const MANY_SPAWNS: usize = 1_000;
 
 /// Few programs spawn more often than at every so many entries.
 const ENTRIES_OF_SPAWN: usize = 4;
@@ -248,9 +247,9 @@ pub fn replay<A: Allocator + Copy, B: Allocator>(
     let mut table = FrameTable::open(alloc, program)?;
     let mut core = core_of(alloc, program)?;
     let spawns = spawns_of(entries);
+    table.make_room(spawns);
     if spawns >= MANY_SPAWNS {
         core.make_room(spawns.saturating_mul(3));
-        table.make_room(spawns);
     }
     play_all(&mut core, &mut table, program, entries)
 }
@@ -269,14 +268,7 @@ pub fn follow<A: Allocator + Copy, B: Allocator, C: Allocator>(
     ensures strange { (number : ℕ) → result ≡ Err (ReplayFault.Strange number) →
         IsStrange program.now.functions (shape_in program.now) entries.now.items number }
 {
-    if entries.len() > MOST_ENTRIES as usize {
-        let entries = entries.to_vec(alloc)?;
-        return replay(alloc, program, entries.as_slice());
-    }
     let mut table = FrameTable::open(alloc, program)?;
-    let spawns = entries.len() / ENTRIES_OF_SPAWN;
-    if spawns >= MANY_SPAWNS {
-        table.make_room(spawns);
-    }
+    table.make_room(entries.len() / ENTRIES_OF_SPAWN);
     follow_all(&mut table, program, entries)
 }

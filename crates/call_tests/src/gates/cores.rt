@@ -6,7 +6,7 @@ ghost use Rattle.model_histories.specs.Shapes.{most_entries};
 ghost use Rattle.race_gate.specs.Accesses.{act_of_cell, act_of_reducer};
 
 use crate::checks::equal;
-use race_gate::{Answer, CellAct, ControlAct, Core, GateFault, Receipt, ReducerAct, Reply};
+use race_gate::{Answer, CellAct, Core, GateFault, Receipt, ReducerAct, Reply};
 use std::alloc::{AllocError, Global};
 use std::process::Abort;
 use std::test::Fail;
@@ -149,7 +149,7 @@ fn a_core_replies_to_requests_of_a_known_sort(rt: HostRuntime) -> Result<(), Fai
             request!(Act::Update(0, 2)),
             ReducerAct::Update(0, 2),
         ),
-        core.reply_to_control(request!(Act::Sync), ControlAct::Sync),
+        core.reply(request!(Act::Sync)),
         core.reply(request!(Act::Read(0))),
         reply_to_cell(&mut core, request!(Act::Read(0)), CellAct::Read(0)),
     ];

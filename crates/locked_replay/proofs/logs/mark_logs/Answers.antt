@@ -1,4 +1,5 @@
-use Rattle.std.proofs.Common.{rules, ◌<◌, length, take, subst, ◌∙◌}
+use Rattle.std.proofs.Common.{◌<◌, length, take, subst, ◌∙◌, arith}
+use Rattle.std.proofs.lemmas.List.{take_all}
 use Rattle.locked_replay.specs.Receipts.{AreMarked}
 use Rattle.locked_replay.specs.Logs.{all_receipts}
 use Rattle.locked_replay.proofs.Theirs.{rise_next, receipts_next, not_theirs}
@@ -10,8 +11,7 @@ returns-then-not-mark_all g c are =
     let entries = c.args.entries.now.items in
     let before = all_receipts (take c.loop-log.log-index logs) in
     let refused = c.if-not-mark_all.ensures.marks before (c.loop-log.invariant.1 are).1 in
-    not_theirs logs c.loop-log.log-index c.log-item.result (search rules) c.log-item.is entries
-    refused
+    not_theirs logs c.loop-log.log-index c.log-item.result c.loop-log-test.true c.log-item.is entries refused
 
 pub loop-log-preserved : goal.loop-log-preserved
 loop-log-preserved g c =
@@ -19,7 +19,7 @@ loop-log-preserved g c =
     let entries = c.args.entries.now.items in
     let marks = c.mark_all.new.marks in
     let before = all_receipts (take c.loop-log.log-index logs) in
-    let low : c.loop-log.log-index < length logs = search rules in (
+    let low : c.loop-log.log-index < length logs = c.loop-log-test.true in (
       c.mark_all.ensures.length ∙ c.loop-log.invariant.0,
       λ are. (
           let known = c.loop-log.invariant.1 are in
@@ -29,3 +29,8 @@ loop-log-preserved g c =
           )
           ),
     )
+
+pub returns : goal.returns
+returns g c are =
+    let whole = take_all c.loop-log.log-index c.args.logs.now (omega (arith, c.loop-log-test.false, c.loop-log.auto.log-index-end)) in
+    rw whole at (c.loop-log.invariant.1 are)

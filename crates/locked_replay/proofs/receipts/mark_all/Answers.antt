@@ -1,4 +1,6 @@
-use Rattle.std.proofs.Common.{rules, inl, inr, ◌++◌, ◌∷◌, [], take, sym, subst, ◌∙◌}
+use Rattle.std.proofs.Common.{rules, ◌≡◌, ◌<◌, inl, inr, ◌++◌, ◌∷◌, [], length, take, sym, subst, ◌∙◌, arith}
+use Rattle.std.specs.List.{AllAdjacentBelow}
+use Rattle.std.proofs.lemmas.List.{take_all}
 use Rattle.std.proofs.lemmas.Option.{get_or_from_slice_get}
 use Rattle.packed_history.specs.Lists.{Listed}
 use Rattle.model_histories.specs.declared.reply.Receipt.{Receipt}
@@ -35,4 +37,12 @@ loop-at-preserved g c =
       λ met are.
           subst (AreMarked c.mark.new.marks c.args.entries.now.items) (taken met list.items c.loop-at.at receipt (search rules) there.1)
           (c.if-not-mark.ensures.marks (met ++ take c.loop-at.at list.items) receipt there.1 (c.loop-at.invariant.3 met are)),
+    )
+
+pub returns-clause-marks : goal.returns-clause-marks
+returns-clause-marks g c met are =
+    let list : Listed = c.args.receipts.now in
+    let end : c.loop-at.at ≡ length list.items = omega (arith, c.loop-at-test.false, c.loop-at.auto.at-end, c.len-at-end.ensures) in (
+      subst (AllAdjacentBelow (λ one next. one.number < next.number) list.items) end c.loop-at.invariant.1,
+      subst (λ taken. AreMarked c.loop-at.marks c.args.entries.now.items (met ++ taken)) (take_all c.loop-at.at list.items (omega (arith, end))) (c.loop-at.invariant.3 met are),
     )

@@ -1,6 +1,7 @@
-use Rattle.std.proofs.Common.{List, reverse, subst, sym}
+use Rattle.std.proofs.Common.{◌≡◌, List, Err, reverse, subst, sym, ap, ◌∙◌}
 use Rattle.std.proofs.lemmas.Result.{err_from_is_err_and}
 use Rattle.program_text.specs.Shapes.{shape_in}
+use Rattle.locked_replay.specs.declared.fault.RunFault.TheVariants.{Limit}
 use Rattle.locked_replay.specs.declared.worker.WorkerLog.{WorkerLog}
 use Rattle.locked_replay.specs.Logs.{AreWhole}
 use Rattle.locked_replay.proofs.Faulted.{logs_faulted}
@@ -60,3 +61,14 @@ returns-clause-faults g c =
     (subst (λ (l : List (WorkerLog _ _)). AreWhole (reverse gate.history) l) c.as_slice.ensures.value c.in_ok-check_logs.ensures.whole)
     ensured.strange ensured.faults)
     (λ fault has. faulted c.args.program.now gate c.args.logs.items c.into_gate-gate.ensures.judged c.into_gate-gate.ensures.values fault has)
+
+pub returns-in_err-check_logs-clause-limit : goal.returns-in_err-check_logs-clause-limit
+returns-in_err-check_logs-clause-limit g c = λ e.
+    let gone = err_from_is_err_and c.from_residual.result c.from_residual.ensures.1 in
+    let told = gone.1 in
+    let from = gone.2 in
+    let same : c.in_err-check_logs.field-0.0 ≡ Limit = cc in
+    c.check_logs.ensures.faults.0 (c.in_err-check_logs.was ∙ ap Err same)
+
+pub returns-clause-limit : goal.returns-clause-limit
+returns-clause-limit g c = c.whole_of_gate.ensures.faults.0

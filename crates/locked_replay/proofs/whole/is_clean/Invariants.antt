@@ -1,6 +1,6 @@
-use Rattle.std.specs.Prelude.{ℕ, ◌<◌, slice_index_or}
-use Rattle.model_histories.specs.Extensions.{IsCleanAnswer}
+use Rattle.std.specs.Prelude.{take}
+use Rattle.model_histories.specs.Extensions.{IsClean}
 use Rattle.locked_replay.proofs.whole.is_clean.Given as goal
 
 abbrev pub invariant-loop-at : goal.invariant-loop-at
-invariant-loop-at g l = (k : ℕ) (d : _) → k < l.at → IsCleanAnswer (slice_index_or l.entries.items k d).answer
+invariant-loop-at g l = IsClean (take l.at l.entries.items)

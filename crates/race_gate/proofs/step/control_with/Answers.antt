@@ -12,3 +12,21 @@ follow-requires-clause-takes g c =
 
 pub returns-clause-books : goal.returns-clause-books
 returns-clause-books g c event between = on-still _ _ _ event c.in_ok-reserve_event.ensures.still (c.follow.ensures.follows (act_of_control c.args.act) event between)
+
+pub answer_to-requires-clause-follows : goal.answer_to-requires-clause-follows
+answer_to-requires-clause-follows g c = (c.requires.follows.0, c.requires.follows.1)
+
+pub answer_to-requires-clause-runs : goal.answer_to-requires-clause-runs
+answer_to-requires-clause-runs g c = c.requires.runs
+
+pub answer_to-requires-clause-synced : goal.answer_to-requires-clause-synced
+answer_to-requires-clause-synced g c = c.requires.synced
+
+pub answer_to-requires-clause-numbers : goal.answer_to-requires-clause-numbers
+answer_to-requires-clause-numbers g c = c.requires.numbers
+
+pub returns-clause-ok : goal.returns-clause-ok
+returns-clause-ok g c = c.in_ok-answer.ensures.ok
+
+pub follow-requires-clause-room : goal.follow-requires-clause-room
+follow-requires-clause-room g c = c.in_ok-reserve_event.ensures.room

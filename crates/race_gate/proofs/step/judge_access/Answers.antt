@@ -87,3 +87,18 @@ returns-clause-judged g c history accesses follows remembers =
       witness = names_nothing c.perform.result _ not;
       remembers = rw c.perform.ensures.granted (c.add.ensures.added history accesses follows remembers);
     })
+
+pub returns-clause-value : goal.returns-clause-value
+returns-clause-value g c = c.perform.ensures.value
+
+pub returns-clause-memory : goal.returns-clause-memory
+returns-clause-memory g c = c.perform.ensures.memory
+
+pub returns-clause-belongs : goal.returns-clause-belongs
+returns-clause-belongs g c = c.perform.ensures.belongs
+
+pub perform-requires : goal.perform-requires
+perform-requires g c = c.requires.in_memory
+
+pub returns-in-Some-clause-locations : goal.returns-in-Some-clause-locations
+returns-in-Some-clause-locations g c = refl

@@ -1,4 +1,4 @@
-use Rattle.std.proofs.Common.{◌≡◌, ◌<◌, ◌+◌, suc, length, true≢false, Err, ◌∙◌, refl, ap, sym, subst, arith}
+use Rattle.std.proofs.Common.{◌≡◌, ◌<◌, ◌+◌, suc, length, true≢false, Err, inl, ◌∙◌, refl, ap, sym, subst, arith}
 use Rattle.std.proofs.lemmas.Option.{get_or_from_slice_get}
 use Rattle.model_histories.specs.declared.answer.Entry.{Entry}
 use Rattle.model_histories.specs.Shapes.{most_entries}
@@ -55,9 +55,20 @@ loop-at-preserved g c =
     let now = c.play_at.new.table in
     let found = entry_there items c.loop-at.at low in
     let here = get_or_from_slice_get items c.loop-at.at found.0 found.0 found.1 in
-    one_further shape items c.loop-at.at kept.0 found.0 c.requires.judged c.requires.within low kept.1.2.shape_is kept.1.2.limit_is kept.2
+    one_further shape items c.loop-at.at kept.0 found.0 c.requires.judged c.if-at.false low kept.1.2.shape_is kept.1.2.limit_is kept.2
     (λ state. PlaysIn functions shape state now.slots.items now.homes.items now.places.items)
     (λ next entered. c.in-Ok.ensures.ok found.0 found.1 kept.0 next kept.1 (subst (λ (entry : Entry). IsEntered entry kept.0 next) here entered))
+
+pub returns-then-at-clause-strange : goal.returns-then-at-clause-strange
+returns-then-at-clause-strange g c = λ number e.
+    let kept = c.loop-at.invariant in
+    let items = c.args.entries.now.items in
+    let low : c.loop-at.at < length items = omega (arith, c.loop-at-test.true, c.len-at-end.ensures) in
+    let is : most_entries + 1 ≡ number = cc in
+    let played = so_many items c.loop-at.at kept.0.history low kept.2 in
+    let full : length kept.0.history ≡ most_entries = omega (arith, played, c.if-at.true, kept.1.2.within) in
+    strange_at c.args.program.now.functions (shape_in c.args.program.now) kept.0 kept.1.0 c.loop-at.table.places.items kept.1.2 items c.loop-at.at kept.2
+    (entry_there items c.loop-at.at low).0 number low (omega (arith, is, full)) (λ run. inl full)
 
 pub returns-in-Err-Strange-clause-unfinished : goal.returns-in-Err-Strange-clause-unfinished
 returns-in-Err-Strange-clause-unfinished g c = λ e. absurd (strange-unfinished (c.loop-at.at + 1) e)
@@ -95,3 +106,15 @@ returns-then-not-is_finished-clause-strange g c = λ number e. absurd (unfinishe
 
 pub returns-then-not-is_finished-clause-finished : goal.returns-then-not-is_finished-clause-finished
 returns-then-not-is_finished-clause-finished g c = tt
+
+pub returns-then-at-clause-finished : goal.returns-then-at-clause-finished
+returns-then-at-clause-finished g c = tt
+
+pub returns-then-at-clause-unfinished : goal.returns-then-at-clause-unfinished
+returns-then-at-clause-unfinished g c = λ e. absurd (strange-unfinished (most_entries + 1) e)
+
+pub returns-in-Err-Strange-clause-finished : goal.returns-in-Err-Strange-clause-finished
+returns-in-Err-Strange-clause-finished g c = tt
+
+pub returns-in-Err-Memory-clause-finished : goal.returns-in-Err-Memory-clause-finished
+returns-in-Err-Memory-clause-finished g c = tt

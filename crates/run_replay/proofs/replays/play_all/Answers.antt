@@ -2,8 +2,9 @@ use Rattle.std.proofs.Common.{◌≡◌, suc, length, Err, refl, sym, ◌∙◌,
 use Rattle.model_histories.specs.Shapes.{most_entries}
 use Rattle.model_histories.specs.States.{opening}
 use Rattle.program_text.specs.Shapes.{shape_in}
+use Rattle.run_replay.specs.declared.replays.ReplayFault.TheVariants.{Strange, Unfinished}
 use Rattle.run_replay.proofs.Openings.{opens_plays}
-use Rattle.run_replay.proofs.Told.{more_played, strange_at, finished_all, unfinished_all}
+use Rattle.run_replay.proofs.Told.{more_played, strange_at, finished_all, unfinished_all, ok-other, memory-unfinished, memory-strange, strange-unfinished, unfinished-strange}
 use Rattle.run_replay.proofs.replays.play_all.Goals as goal
 
 pub loop-entry-init : goal.loop-entry-init
@@ -69,3 +70,27 @@ returns-else-is_finished-clause-unfinished g c = λ e.
 
 pub returns-else-is_finished-clause-finished : goal.returns-else-is_finished-clause-finished
 returns-else-is_finished-clause-finished g c = tt
+
+pub returns-in-Err-Strange-clause-finished : goal.returns-in-Err-Strange-clause-finished
+returns-in-Err-Strange-clause-finished g c = tt
+
+pub returns-in-Err-Strange-clause-unfinished : goal.returns-in-Err-Strange-clause-unfinished
+returns-in-Err-Strange-clause-unfinished g c = λ e. absurd (strange-unfinished c.next_number-number.result e)
+
+pub returns-in-Err-Memory-clause-finished : goal.returns-in-Err-Memory-clause-finished
+returns-in-Err-Memory-clause-finished g c = tt
+
+pub returns-in-Err-Memory-clause-unfinished : goal.returns-in-Err-Memory-clause-unfinished
+returns-in-Err-Memory-clause-unfinished g c = λ e. absurd (memory-unfinished e)
+
+pub returns-in-Err-Memory-clause-strange : goal.returns-in-Err-Memory-clause-strange
+returns-in-Err-Memory-clause-strange g c = λ number e. absurd (memory-strange number e)
+
+pub returns-then-is_finished-clause-unfinished : goal.returns-then-is_finished-clause-unfinished
+returns-then-is_finished-clause-unfinished g c = λ e. absurd (ok-other tt Unfinished e)
+
+pub returns-then-is_finished-clause-strange : goal.returns-then-is_finished-clause-strange
+returns-then-is_finished-clause-strange g c = λ number e. absurd (ok-other tt (Strange number) e)
+
+pub returns-else-is_finished-clause-strange : goal.returns-else-is_finished-clause-strange
+returns-else-is_finished-clause-strange g c = λ number e. absurd (unfinished-strange number e)

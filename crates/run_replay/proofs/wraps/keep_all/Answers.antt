@@ -1,4 +1,4 @@
-use Rattle.std.proofs.Common.{rules, ◌≡◌, ◌<◌, ◌∙◌, length, refl, reverse, take, ap, subst}
+use Rattle.std.proofs.Common.{rules, ◌≡◌, ◌<◌, ◌∙◌, length, refl, reverse, take, ap, subst, arith}
 use Rattle.std.proofs.lemmas.Option.{get_or_from_slice_get}
 use Rattle.std.proofs.Math.Seq.{take-length}
 use Rattle.model_histories.specs.declared.answer.Entry.{Entry}
@@ -40,7 +40,7 @@ loop-at-preserved g c =
     let low : c.loop-at.at < length items = search rules in
     let now = c.keep_and_play.new.table in
     let here = get_or_from_slice_get items c.loop-at.at c.get.result c.get.result c.get.ensures in
-    one_further shape items c.loop-at.at kept.0 c.get.result c.requires.judged c.requires.within low kept.1.0.2.shape_is kept.1.0.2.limit_is kept.2
+    one_further shape items c.loop-at.at kept.0 c.get.result c.requires.judged (omega (arith, low, c.requires.within)) low kept.1.0.2.shape_is kept.1.0.2.limit_is kept.2
     (λ state. PlaysIn functions shape state now.slots.items now.homes.items now.places.items × AreWraps functions shape state.history c.keep_and_play.new.wraps)
     (λ next entered. c.in_ok-keep_and_play.ensures kept.0 next kept.1.0 (subst (λ (entry : Entry). IsEntered entry kept.0 next) here entered) kept.1.1)
 

@@ -8,7 +8,7 @@ pub returns-in_err-check-clause-replies : goal.returns-in_err-check-clause-repli
 returns-in_err-check-clause-replies g c =
     let fits = now-fits _ (g.H.History.entries c.self.inside.history) _ c.self.view_is c.self.invariant in
     let p = err_from_is_err_and c.from_residual.result c.from_residual.ensures.1 in
-    rw (p.1, p.2) (refl, c.in_err-check.ensures.fault _ fits)
+    rw (p.1, p.2) (refl {a = c.args.self.now}, c.in_err-check.ensures.fault _ fits)
 
 pub returns-in_err-check-clause-judged : goal.returns-in_err-check-clause-judged
 returns-in_err-check-clause-judged g c = (now-fits _ (g.H.History.entries c.self.inside.history) _ c.self.view_is c.self.invariant).kept.right.judged
@@ -98,3 +98,16 @@ returns-in_err-answer-clause-judged g c = (invariant_of-self-in_err-answer g c).
 
 pub returns-in_err-answer-clause-values : goal.returns-in_err-answer-clause-values
 returns-in_err-answer-clause-values g c = (invariant_of-self-in_err-answer g c).kept.right.memory
+
+pub returns-in_err-reserve_entry-clause-replies : goal.returns-in_err-reserve_entry-clause-replies
+returns-in_err-reserve_entry-clause-replies g c =
+    let held = g.H.History.entries c.self.inside.history in
+    let fits = now-fits _ held _ c.self.view_is c.self.invariant in
+    let told = err_from_is_err_and c.from_residual-in_err-reserve_entry.result c.from_residual-in_err-reserve_entry.ensures.1 in
+    let turned = now-history _ held _ c.self.view_is c.self.invariant _ c.in_err-reserve_entry.ensures.same in
+    rw told.1 (is-out_of_memory _ (g.H.History.entries c.reserve_entry.new.self) _ c.args.request told.0 (c.in_ok-check.ensures.fault _ fits) fits turned told.2)
+
+pub returns-in_err-reserve_entry-clause-admitted : goal.returns-in_err-reserve_entry-clause-admitted
+returns-in_err-reserve_entry-clause-admitted g c admitted =
+    let told = err_from_is_err_and c.from_residual-in_err-reserve_entry.result c.from_residual-in_err-reserve_entry.ensures.1 in
+    rw (told.1, told.2) tt

@@ -33,3 +33,8 @@ returns-clause-judges g c state fits =
 pub returns-clause-admitted : goal.returns-clause-admitted
 returns-clause-admitted g c state fits admitted =
     lacks-memory _ _ c.answer.result (c.answer.ensures state fits (c.in_ok-check.ensures.fault state fits))
+
+pub answer-requires : goal.answer-requires
+answer-requires g c =
+    let held = c.check.ensures.fits in
+    (held.0, held.1, c.in_ok-check.ensures.fault held.0 held.1)

@@ -25,7 +25,14 @@ returns-in_ok-push-in-None-clause-frames g c = λ frames counted held.
     let last : length slots ≡ c.len-home.result = omega (arith, c.len-home.ensures, c.take_free_slot.new.self.slots.ok) in
     let more = held_pushed slots homes frames here (record { number = c.args.number; frame = c.new-frame.result }) (sym counted) in (
       frames ++ c.new-frame.result ∷ [],
-      subst (λ slots. AreHeld slots (homes ++ c.len-home.result ∷ []) (frames ++ c.new-frame.result ∷ [])) (sym c.in_ok-push-in-None.ensures.items)
+      subst (λ slots. AreHeld slots (homes ++ c.len-home.result ∷ []) (frames ++ c.new-frame.result ∷ [])) {x = slots ++ record { number = c.args.number; frame = c.new-frame.result } ∷ []}
+          (sym c.in_ok-push-in-None.ensures.items)
           (subst (λ home. AreHeld (slots ++ record { number = c.args.number; frame = c.new-frame.result } ∷ []) (homes ++ home ∷ []) (frames ++ c.new-frame.result ∷ [])) last more),
       record { frame = c.new-frame.result; stands = c.new-frame.ensures.stands; begun = c.new-frame.ensures.begun; pushed = refl },
     )
+
+pub returns-in-Some-clause-rest : goal.returns-in-Some-clause-rest
+returns-in-Some-clause-rest g c = (c.take_free_slot.ensures.rest.1, c.take_free_slot.ensures.rest.2)
+
+pub returns-in_ok-push-in-None-clause-rest : goal.returns-in_ok-push-in-None-clause-rest
+returns-in_ok-push-in-None-clause-rest g c = (c.take_free_slot.ensures.rest.1, c.take_free_slot.ensures.rest.2)

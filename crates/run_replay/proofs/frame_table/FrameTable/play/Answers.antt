@@ -1,17 +1,13 @@
 use Rattle.std.proofs.Common.{◌≡◌, length, Some, refl, ap, rules}
-use Rattle.std.proofs.Common.{Result, Ok, Err}
-use Rattle.std.specs.Prelude.{slice_get, OnOk}
+use Rattle.std.specs.Prelude.{slice_get}
 use Rattle.std.proofs.lemmas.Option.{slice_get_read}
 use Rattle.program_text.specs.Shapes.{shape_in}
 use Rattle.run_replay.proofs.Frames.{no_split}
 use Rattle.run_replay.proofs.Openings.{place_misfit}
 use Rattle.run_replay.proofs.Played.{slot_stands, slot_misfit, calm_in, split_in, targeted_in, plays_same}
+use Rattle.run_replay.proofs.Told.{always_ok}
 use Rattle.run_replay.proofs.frame_table.FrameTable.play.Goals as goal
 use Rattle.run_replay.proofs.frame_table.FrameTable.play.Goals.{in_default-2-via-in-Some+in_default, in_default-2-via-in_default}
-
-told : {T E : Type 0} (r : Result T E) (P : Type 0) → P → OnOk r P
-told (Ok v) P p = p
-told (Err e) P p = tt
 
 pub returns-in_default-clause-strange : goal.returns-in_default-clause-strange
 returns-in_default-clause-strange g c =
@@ -65,6 +61,18 @@ returns-in_default-2-clause-ok g c =
           c.in-Some.place c.in-Some.ensures.0 c.in-Some.home c.in-Some.ensures.1 c.index_mut.result.now slot_is c.advance_slot.new.slot c.in_ok-target.target next
           c.in_ok-target.ensures.ok entered strands split w.in_default-2.is-0)
     ]) in
-    told c.vacate.result _
+    always_ok c.vacate.result _
     (plays_same functions shape next _ c.vacate.new.self.slots.items _ c.vacate.new.self.homes.items _ c.vacate.new.self.places.items (ap (λ v. v.items) c.vacate.ensures.rest.0)
     (ap (λ v. v.items) c.vacate.ensures.rest.1) (ap (λ v. v.items) c.vacate.ensures.rest.2) calm)
+
+pub returns-in_default-clause-ok : goal.returns-in_default-clause-ok
+returns-in_default-clause-ok g c = λ state next plays entered. tt
+
+pub returns-in-Ok-clause-strange : goal.returns-in-Ok-clause-strange
+returns-in-Ok-clause-strange g c = λ state plays e. absurd (cc)
+
+pub returns-in-Err-clause-ok : goal.returns-in-Err-clause-ok
+returns-in-Err-clause-ok g c = λ state next plays entered. tt
+
+pub returns-in-Err-clause-strange : goal.returns-in-Err-clause-strange
+returns-in-Err-clause-strange g c = λ state plays e. absurd (cc)

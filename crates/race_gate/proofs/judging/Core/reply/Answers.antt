@@ -1,5 +1,0 @@
-use Rattle.race_gate.proofs.Cores.{replied-next}
-use Rattle.race_gate.proofs.judging.Core.reply.Goals as goal
-
-pub returns : goal.returns
-returns g c state fits = rw c.reply_of.ensures (replied-next c.args.self.now _ state c.args.request c.judge-judged.result (c.judge-judged.ensures.judges state fits))
