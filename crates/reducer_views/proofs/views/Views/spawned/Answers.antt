@@ -1,8 +1,11 @@
 use Rattle.std.proofs.Common.{refl}
 use Rattle.std.proofs.lemmas.Bool.{false≢true}
 use Rattle.reducer_views.proofs.Grown.{grown_kept}
-use Rattle.reducer_views.proofs.Following.{home_read, home_lent, split_at}
+use Rattle.reducer_views.proofs.Following.{there_lent, home_read, home_lent, split_at}
 use Rattle.reducer_views.proofs.views.Views.spawned.Goals as goal
+
+pub home_of-home-requires : goal.home_of-home-requires
+home_of-home-requires g c = record { known = there_lent _ _ _ _ _ _ c.self.view_is c.deref.ensures.value c.requires.there }
 
 pub grow-requires-clause-home_known : goal.grow-requires-clause-home_known
 grow-requires-clause-home_known g c = home_lent _ _ _ _ _ c.self.invariant.0 refl (home_read _ _ _ _ c.deref.ensures.value c.home_of-home.ensures)
