@@ -36,19 +36,15 @@ impl<A: Allocator> Grouping<A> {
         ensures items { IfOk result (λ list. items_along list.places.items ≡ 0 ∷ []) }
         ensures reserved { IfOk result (λ list. list.reserved ≡ 0) }
     {
-        let mut places = Vec::new(alloc.clone()?);
-        let mut firsts = Vec::new(alloc.clone()?);
-        places.push(Place {
+        let first = Place {
             local: 0,
             group: 0,
             next: 0,
-        })?;
-        firsts.push(0)?;
-        let groups = Groups::new(alloc)?;
+        };
         Ok(Grouping {
-            places,
-            firsts,
-            groups,
+            places: Vec::from_slice(alloc.clone()?, &[first])?,
+            firsts: Vec::from_slice(alloc.clone()?, &[0])?,
+            groups: Groups::new(alloc)?,
             reserved: 0,
         })
     }
