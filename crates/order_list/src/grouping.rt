@@ -69,11 +69,11 @@ impl<A: Allocator> Grouping<A> {
         ensures reserved { self.new.reserved ≡ self.old.reserved }
     {
         let count = count.min(MOST_ITEMS - self.groups.len() as u32);
-        if self.groups.reserved() < count {
-            self.firsts.reserve(count as usize)?;
-            self.groups.reserve(count)?;
+        if self.groups.reserved() >= count {
+            return Ok(());
         }
-        Ok(())
+        self.firsts.reserve(count as usize)?;
+        self.groups.reserve(count)
     }
 
     /// Makes room for `count` more items, which the caller knows to be within the limit.

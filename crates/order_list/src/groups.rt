@@ -72,8 +72,7 @@ impl<A: Allocator> Groups<A> {
         ensures err { OnErr result (self.new ≡ self.old) }
     {
         self.labels.reserve(count as usize)?;
-        self.ring.reserve(count)?;
-        Ok(())
+        self.ring.reserve(count)
     }
 
     /// Puts a new group directly behind `after`, and gives its number. It takes one of the reserved places, and no memory.
