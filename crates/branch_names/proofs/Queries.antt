@@ -1,5 +1,5 @@
 -- What the names answer.
-use Rattle.std.proofs.Common.{◌≡◌, ◌↔◌, ℕ, ◌<◌, length, arith}
+use Rattle.std.proofs.Common.{◌≡◌, ◌↔◌, ℕ, ◌<◌, Bool, IsTrue, length, sym, subst, arith}
 use Rattle.model_strands.specs.History.{History}
 use Rattle.model_strands.specs.Strands.{Begun}
 use Rattle.model_strands.specs.Legal.{Legal}
@@ -9,7 +9,7 @@ use Rattle.model_strands.specs.Peers.{HaveSamePeers}
 use Rattle.law_strands.proofs.Range.{ranges}
 use Rattle.law_strands.proofs.Law.{begun_below}
 use Rattle.law_strands.proofs.Branches.{branch_law}
-use Rattle.branch_names.specs.Names.{Names, Follows, IsNamed, IsGiven, branch_number, name_at}
+use Rattle.branch_names.specs.Names.{Names, BranchName, Follows, IsNamed, IsGiven, branch_number, name_at}
 
 -- A begun strand has a name.
 pub named-known : (branches : Names) (strand : ℕ) → IsNamed branches strand → strand < length branches.names
@@ -25,6 +25,13 @@ named-begun branches history follows strand named =
     let lt = named-known branches strand named in
     let (other, follows_other, begun) = named in
     (follows.given strand lt).0 ((follows_other.given strand lt).1 begun)
+
+-- Whether the name of a number is given tells whether its strand has begun.
+pub given-begun : (branches : Names) (history : History) → Follows branches history → (strand : ℕ) → strand < length branches.names → (answer : Bool) (name : BranchName) →
+    name ≡ name_at branches.names strand → IsTrue answer ↔ IsGiven name → IsTrue answer ↔ Begun history strand
+given-begun branches history follows strand lt answer name is tells =
+    let given = follows.given strand lt in
+    ((λ t. given.0 (subst IsGiven is (tells.0 t))), (λ begun. tells.1 (subst IsGiven (sym is) (given.1 begun))))
 
 -- Two named strands have one number just where they have one branch.
 pub same-branches : (branches : Names) (history : History) → Follows branches history → (first second : ℕ) → IsNamed branches first → IsNamed branches second →

@@ -116,7 +116,7 @@ impl<A: Allocator> Branches<A> {
         ensures begun { (history : History) → Follows self.now history → IsTrue result ↔ Begun history strand }
         ensures named { IsTrue result ↔ IsNamed self.now strand }
     {
-        matches!(self.names.get(strand as usize), Some(name) if name.is_given())
+        (strand as usize) < self.names.len() && self.names[strand as usize].is_given()
     }
 
     /// Whether two strands have one branch, and so the same peers, now and ever after. Takes no memory.

@@ -36,19 +36,15 @@ impl<A: Allocator> Grouping<A> {
         ensures items { IfOk result (λ list. items_along list.places.items ≡ 0 ∷ []) }
         ensures reserved { IfOk result (λ list. list.reserved ≡ 0) }
     {
-        let mut places = Vec::new(alloc.clone()?);
-        let mut firsts = Vec::new(alloc.clone()?);
-        places.push(Place {
+        let first = Place {
             local: 0,
             group: 0,
             next: 0,
-        })?;
-        firsts.push(0)?;
-        let groups = Groups::new(alloc)?;
+        };
         Ok(Grouping {
-            places,
-            firsts,
-            groups,
+            places: Vec::from_slice(alloc.clone()?, &[first])?,
+            firsts: Vec::from_slice(alloc.clone()?, &[0])?,
+            groups: Groups::new(alloc)?,
             reserved: 0,
         })
     }
@@ -73,11 +69,11 @@ impl<A: Allocator> Grouping<A> {
         ensures reserved { self.new.reserved ≡ self.old.reserved }
     {
         let count = count.min(MOST_ITEMS - self.groups.len() as u32);
-        if self.groups.reserved() < count {
-            self.firsts.reserve(count as usize)?;
-            self.groups.reserve(count)?;
+        if self.groups.reserved() >= count {
+            return Ok(());
         }
-        Ok(())
+        self.firsts.reserve(count as usize)?;
+        self.groups.reserve(count)
     }
 
     /// Makes room for `count` more items, which the caller knows to be within the limit.

@@ -39,10 +39,10 @@ impl<A: Allocator> Groups<A> {
         ensures items { IfOk result (λ groups. groups.items ≡ 0 ∷ []) }
         ensures reserved { IfOk result (λ groups. groups.reserved ≡ 0) }
     {
-        let mut labels = Vec::new(alloc.clone()?);
-        labels.push(0)?;
-        let ring = Ring::new(alloc)?;
-        Ok(Groups { labels, ring })
+        Ok(Groups {
+            labels: Vec::from_slice(alloc.clone()?, &[0])?,
+            ring: Ring::new(alloc)?,
+        })
     }
 
     /// How many groups there are.
@@ -72,8 +72,7 @@ impl<A: Allocator> Groups<A> {
         ensures err { OnErr result (self.new ≡ self.old) }
     {
         self.labels.reserve(count as usize)?;
-        self.ring.reserve(count)?;
-        Ok(())
+        self.ring.reserve(count)
     }
 
     /// Puts a new group directly behind `after`, and gives its number. It takes one of the reserved places, and no memory.

@@ -77,8 +77,9 @@ impl<A: Allocator> OrderList<A> {
         ensures items { IfOk result (λ list. list.items ≡ 0 ∷ []) }
         ensures reserved { IfOk result (λ list. list.reserved ≡ 0) }
     {
-        let list = Grouping::new(alloc)?;
-        Ok(OrderList { list })
+        Ok(OrderList {
+            list: Grouping::new(alloc)?,
+        })
     }
 
     /// How many items there are.

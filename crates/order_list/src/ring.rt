@@ -29,13 +29,9 @@ impl<A: Allocator> Ring<A> {
         ensures items { IfOk result (λ ring. items_of ring ≡ 0 ∷ []) }
         ensures reserved { IfOk result (λ ring. ring.reserved ≡ 0) }
     {
-        let mut next = Vec::new(alloc.clone()?);
-        let mut previous = Vec::new(alloc);
-        next.push(0)?;
-        previous.push(0)?;
         Ok(Ring {
-            next,
-            previous,
+            next: Vec::from_slice(alloc.clone()?, &[0])?,
+            previous: Vec::from_slice(alloc, &[0])?,
             reserved: 0,
         })
     }

@@ -38,7 +38,7 @@ use Rattle.reducer_views.specs.Homes.{home, later, IsCurrent}
 use Rattle.reducer_views.specs.Held.{Holding, Holds, view_of, IsQuiet, QuietLaw}
 use Rattle.reducer_views.proofs.Associative.{product_of_assoc, product_of-fits, identity-right, identity_of-fits}
 use Rattle.reducer_views.proofs.Touches.{gathered_fits, added_touch, added_view}
-use Rattle.reducer_views.proofs.KeptLists.{home_in_range, set_kept, set_changes}
+use Rattle.reducer_views.proofs.KeptLists.{length-all_kept, home_in_range, set_kept, set_changes}
 use Rattle.reducer_views.proofs.Blocks.{continuations, blocks, old_home, not_new, follow_same, home_at_child, home_at_next, home_at_join, later_elsewhere, later_at_child, later_at_next, later_at_join, later_at_home}
 use Rattle.reducer_views.proofs.Currents.{Gathered, gathered_joined, gathered_ended, current_known, current_split, current_joined, current_ended_joined, current_finished, current_waits, current_ended, own_homes}
 
@@ -517,6 +517,11 @@ module _ {A : Type 0} (monoids : List Monoid) (room : Bool) (pieces lent new_pie
     put_lent new_room number v_is steps l k run =
         put_at_home monoids room new_room pieces new_pieces items now steps s q number home v now_is items_is home_is (v_is ∙ ap (λ m. put_view m number) (monoid_read monoids q monoid in_list monoid_is))
         (set_changes monoids (all_kept pieces) (all_kept new_pieces) home q (record { monoid = monoid; view = v }) put_old) l k run
+
+-- a number that is there is that of a piece
+pub there_lent : {A : Type 0} (monoids : List Monoid) (room : Bool) (pieces lent : List (Piece A)) (now : Holding) (s : ℕ) → held monoids pieces room ≡ now → lent ≡ pieces → s < length now.strands → s < length lent
+there_lent monoids room pieces lent now s now_is ps there =
+    subst (λ n. s < n) (ap (λ h. length h.strands) (sym now_is) ∙ (length-all_kept pieces ∙ ap length (sym ps))) there
 
 pub home_read : {A : Type 0} (pieces lent : List (Piece A)) (s home : ℕ) → lent ≡ pieces → home ≡ home_at (all_kept lent) s → home ≡ home_at (all_kept pieces) s
 home_read pieces lent s home ps home_is = home_is ∙ ap (λ given. home_at (all_kept given) s) ps

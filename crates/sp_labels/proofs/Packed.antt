@@ -14,6 +14,10 @@ length-unpacked items = length-map items unpacked
 pub known-unpacked : (items : List PackedRecord) (strand : ℕ) → strand < length items → strand < length (all_unpacked items)
 known-unpacked items strand lt = omega (arith, length-unpacked items)
 
+-- a packed record that is read stands for that of the strand
+pub read-unpacked : (items : List PackedRecord) (strand : ℕ) (packed : PackedRecord) → strand < length (all_unpacked items) → packed ≡ get_or items strand packed → unpacked packed ≡ record_at (all_unpacked items) strand
+read-unpacked items strand packed lt is = ap unpacked is ∙ sym (get_or-map unpacked items strand packed no_record (omega (arith, length-unpacked items)))
+
 -- a record is put by its packed form
 pub put-packed : (items : List PackedRecord) (strand : ℕ) (packed : PackedRecord) (kept : Record) → strand < length (all_unpacked items) → unpacked packed ≡ kept →
     IsPut (all_unpacked items) strand kept (all_unpacked (set items strand packed))
@@ -28,9 +32,7 @@ put-packed items strand packed kept lt is =
 pub standing-packed : (items : List PackedRecord) (strand : ℕ) (packed : PackedRecord) (standing : Standing) → strand < length (all_unpacked items) → packed ≡ get_or items strand packed →
     IsPut (all_unpacked items) strand (record (record_at (all_unpacked items) strand) { standing = standing }) (all_unpacked (set items strand (record packed { standing = standing })))
 standing-packed items strand packed standing lt is =
-    let at : record_at (all_unpacked items) strand ≡ unpacked packed =
-    get_or-map unpacked items strand packed no_record (omega (arith, length-unpacked items)) ∙ ap unpacked (sym is) in
-    put-packed items strand (record packed { standing = standing }) _ lt (ap (λ (kept : Record). record kept { standing = standing }) (sym at))
+    put-packed items strand (record packed { standing = standing }) _ lt (ap (λ (kept : Record). record kept { standing = standing }) (read-unpacked items strand packed lt is))
 
 pub first-unpacked : (items : List PackedRecord) (packed : PackedRecord) (kept : Record) → items ≡ packed ∷ [] → unpacked packed ≡ kept → all_unpacked items ≡ kept ∷ []
 first-unpacked items packed kept is same = ap all_unpacked is ∙ ap (λ first. first ∷ []) same

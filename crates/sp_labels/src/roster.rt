@@ -14,7 +14,7 @@ ghost use Rattle.sp_labels.specs.Roster.{most_callers, Follows, HasBegun, HasFew
 use crate::answer::{Returned, SpFault, Synced};
 use crate::record::{PackedRecord, Record, Scope, Standing, push, put, record_of, set_standing};
 use model_strands::Spawned;
-use order_list::{OrderFault, OrderList};
+use order_list::{MOST_ITEMS, OrderFault, OrderList};
 use slab::Slab;
 use std::alloc::{AllocError, Allocator};
 use std::marker::Model;
@@ -30,20 +30,21 @@ const AHEAD: u32 = 96;
 
 /// Reserves places for three more strands, and where there are numbers left for many, theirs too.
 #[inline(always)]
-fn reserve_three<A: Allocator>(order: &mut OrderList<A>) -> Result<(), OrderFault>
+fn reserve_three<A: Allocator>(order: &mut OrderList<A>) -> Result<(), SpFault>
     ensures items { order.new.items ≡ order.old.items }
     ensures ok { OnOk result (3 ≤ order.new.reserved) }
-    ensures err { OnErr result (order.new ≡ order.old) }
-    ensures full { IsErrOf result OrderFault.Full ↔ (most_items < length order.old.items + 3) }
-    ensures memory { IsErrOf result OrderFault.Memory → order.old.reserved < 3 }
+    ensures causes { IfErr result (λ fault. (fault ≡ SpFault.Full) ⊎ (fault ≡ SpFault.Memory)) }
+    ensures full { IsErrOf result SpFault.Full ↔ (most_items < length order.old.items + 3) }
 {
-    if order.reserved() < 3 {
-        match order.reserve(AHEAD) {
-            Err(OrderFault::Full) => {}
-            asked => return asked,
-        }
+    let left = MOST_ITEMS - order.len() as u32;
+    if order.reserved() >= 3 {
+        return Ok(());
     }
-    order.reserve(3)
+    match order.reserve(if left < AHEAD { 3 } else { AHEAD }) {
+        Ok(()) => Ok(()),
+        Err(OrderFault::Full) => Err(SpFault::Full),
+        Err(OrderFault::Memory) => Err(SpFault::Memory),
+    }
 }
 
 /// Makes room for one more caller, whose key has 32 bits.
@@ -125,16 +126,12 @@ impl<A: Allocator> Strands<A> {
         ensures opening { IfOk result (λ strands. Follows strands []) }
         ensures room { IfOk result (λ strands. strands.has_room ≡ false) }
     {
-        let mut records = Vec::new(alloc.clone()?);
-        let callers = Slab::new(alloc.clone()?);
-        let english = OrderList::new(alloc.clone()?)?;
-        let hebrew = OrderList::new(alloc)?;
-        records.push(PackedRecord::of(Record::running(Scope::Root)))?;
+        let root = PackedRecord::of(Record::running(Scope::Root));
         Ok(Strands {
-            records,
-            callers,
-            english,
-            hebrew,
+            records: Vec::from_slice(alloc.clone()?, &[root])?,
+            english: OrderList::new(alloc.clone()?)?,
+            hebrew: OrderList::new(alloc.clone()?)?,
+            callers: Slab::new(alloc),
             has_room: false,
         })
     }
@@ -148,22 +145,13 @@ impl<A: Allocator> Strands<A> {
             IsErrOf result SpFault.Full ↔ (self.old.has_room ≡ false) × HasFewLeft history }
         ensures memory { IsErrOf result SpFault.Memory → self.old.has_room ≡ false }
     {
-        if self.has_room {
-            return Ok(());
+        if !self.has_room {
+            reserve_three(&mut self.english)?;
+            reserve_three(&mut self.hebrew)?;
+            self.records.reserve(3)?;
+            reserve_caller(&mut self.callers)?;
+            self.has_room = true;
         }
-        match reserve_three(&mut self.english) {
-            Ok(()) => {}
-            Err(OrderFault::Full) => return Err(SpFault::Full),
-            Err(OrderFault::Memory) => return Err(SpFault::Memory),
-        }
-        match reserve_three(&mut self.hebrew) {
-            Ok(()) => {}
-            Err(OrderFault::Full) => return Err(SpFault::Full),
-            Err(OrderFault::Memory) => return Err(SpFault::Memory),
-        }
-        self.records.reserve(3)?;
-        reserve_caller(&mut self.callers)?;
-        self.has_room = true;
         Ok(())
     }
 

@@ -64,3 +64,19 @@ pub returns-clause-some : goal.returns-clause-some
 returns-clause-some c =
     let few : c.args.count ≤ 3000001 = omega (arith, c.requires.row.within, c.requires.few, chain_len c.args.places.now c.requires.chain) in
     le-div 4 4294967295 c.args.count c.requires.row.some (omega (arith, few))
+
+pub returns-clause-evened : goal.returns-clause-evened
+returns-clause-evened c =
+    let all : c.loop-placed.placed ≡ c.args.count = omega arith in
+    let e = rw all at c.loop-placed.invariant.evened in
+    record {
+      len = e.len;
+      nexts = e.nexts;
+      inside = e.inside;
+      steps = e.steps;
+      below = λ place from to. omega (arith, e.below place from to, c.loop-placed.invariant.fits);
+      groups_before = e.groups_before;
+      locals_before = e.locals_before;
+      groups_behind = e.groups_behind;
+      locals_behind = e.locals_behind;
+    }

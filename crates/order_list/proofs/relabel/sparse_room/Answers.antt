@@ -1,4 +1,5 @@
 use Rattle.std.proofs.Common.{◌∙◌, refl, arith}
+use Rattle.std.proofs.lemmas.Nat.{and_le_l}
 use Rattle.order_list.proofs.Stretches.{stretch-whole, room-whole}
 use Rattle.order_list.proofs.relabel.sparse_room.Goals as goal
 
@@ -17,6 +18,9 @@ returns-then-count-high-clause-room g c = record {
 
 pub bounds-labels-item : goal.bounds-labels-item
 bounds-labels-item g c = omega (arith, c.requires.known, c.requires.was_rising.labels_len)
+
+pub overflow_sub-low : goal.overflow_sub-low
+overflow_sub-low g c = and_le_l _ _
 
 pub loop-bits-init : goal.loop-bits-init
 loop-bits-init g c =

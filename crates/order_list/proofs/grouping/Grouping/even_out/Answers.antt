@@ -31,3 +31,20 @@ returns-clause-items g c =
     let old = c.args.self.now in
     let e = rw c.deref_mut.ensures.value at c.spread.ensures.evened in
     rw (with_items_is old.places c.spread.new.places (omega (arith, e.len, old.places.ok)), e.nexts) refl
+
+pub count_from-count-requires-clause-chain : goal.count_from-count-requires-clause-chain
+count_from-count-requires-clause-chain g c = rw c.deref-2.ensures.value c.args.self.now.grouped.chain
+
+pub count_from-count-requires-clause-known : goal.count_from-count-requires-clause-known
+count_from-count-requires-clause-known g c =
+    let old = c.args.self.now in
+    let group : c.place_at-group.result.group ≡ get_or (groups_of old.places.items) c.args.item 0 = rw c.deref.ensures.value at c.place_at-group.ensures.group in
+    let known : c.place_at-group.result.group < length old.groups.items = omega (arith, group, old.grouped.known c.args.item c.requires) in
+    let first = get_or_read old.firsts.items c.place_at-group.result.group _ (omega (arith, known, old.grouped.firsts_len)) c.index-first.ensures 0 in
+    omega (arith, first, old.grouped.first_known c.place_at-group.result.group known, old.grouped.len, c.deref-2.ensures.len)
+
+pub spread-requires-clause-chain : goal.spread-requires-clause-chain
+spread-requires-clause-chain g c = rw c.deref_mut.ensures.value c.args.self.now.grouped.chain
+
+pub spread-requires-clause-row : goal.spread-requires-clause-row
+spread-requires-clause-row g c = rw c.deref_mut.ensures.value (rw c.deref-2.ensures.value at c.count_from-count.ensures).row

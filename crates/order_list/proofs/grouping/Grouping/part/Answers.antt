@@ -28,3 +28,9 @@ returns-clause-items g c =
     let old = c.args.self.now in
     let e = rw c.deref_mut.ensures.value at c.spread.ensures.evened in
     rw (with_items_is old.places c.spread.new.places (omega (arith, e.len, old.places.ok)), e.nexts) refl
+
+pub spread-requires-clause-chain : goal.spread-requires-clause-chain
+spread-requires-clause-chain g c = rw c.deref_mut.ensures.value c.args.self.now.grouped.chain
+
+pub spread-requires-clause-row : goal.spread-requires-clause-row
+spread-requires-clause-row g c = rw c.deref_mut.ensures.value c.tail-begin.ensures.row.row

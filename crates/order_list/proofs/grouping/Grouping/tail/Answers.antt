@@ -15,3 +15,9 @@ returns-clause-group g c =
     let row = rw c.deref.ensures.value at c.count_from-count.ensures in
     let at = rw c.deref-2.ensures.value at c.item_ahead.ensures.value in
     rw at (group-later c.args.self.now.grouped c.tail_begin-begin.result count (count / 2) row (omega (arith, row.row.some))) ∙ c.tail_begin-begin.ensures.group
+
+pub count_from-count-requires-clause-chain : goal.count_from-count-requires-clause-chain
+count_from-count-requires-clause-chain g c = rw c.deref.ensures.value c.args.self.now.grouped.chain
+
+pub item_ahead-requires-clause-chain : goal.item_ahead-requires-clause-chain
+item_ahead-requires-clause-chain g c = rw c.deref-2.ensures.value c.args.self.now.grouped.chain

@@ -1,7 +1,10 @@
 use Rattle.std.proofs.Common.{ap, ◌∙◌}
 use Rattle.model_reducers.specs.Products.{view_number}
-use Rattle.reducer_views.proofs.Following.{home_read, touch_seen, home_lent, view_found, view_untouched}
+use Rattle.reducer_views.proofs.Following.{there_lent, home_read, touch_seen, home_lent, view_found, view_untouched}
 use Rattle.reducer_views.proofs.views.Views.get.Goals as goal
+
+pub home_of-home-requires : goal.home_of-home-requires
+home_of-home-requires g c = record { known = there_lent _ _ _ _ _ _ c.self.view_is c.deref.ensures.value c.requires.there }
 
 pub touch_of-requires : goal.touch_of-requires
 touch_of-requires g c = record { home_known = home_lent _ _ _ _ _ c.self.invariant.0 c.deref-2.ensures.value (home_read _ _ _ _ c.deref.ensures.value c.home_of-home.ensures) }

@@ -2,8 +2,11 @@ use Rattle.std.proofs.Common.{sym, subst, arith}
 use Rattle.std.proofs.lemmas.Bool.{false≢true}
 use Rattle.std.proofs.lemmas.List.{with_items_is}
 use Rattle.reducer_views.specs.Pieces.{all_kept, AreKept}
-use Rattle.reducer_views.proofs.Following.{joined_lent, ended_joined_lent}
+use Rattle.reducer_views.proofs.Following.{there_lent, joined_lent, ended_joined_lent}
 use Rattle.reducer_views.proofs.views.Views.joined.Goals as goal
+
+pub gather_block-requires-clause-known : goal.gather_block-requires-clause-known
+gather_block-requires-clause-known g c = there_lent _ _ _ _ _ _ c.self.view_is c.deref_mut.ensures.value c.requires.there
 
 pub gather_block-requires-clause-sound : goal.gather_block-requires-clause-sound
 gather_block-requires-clause-sound g c =

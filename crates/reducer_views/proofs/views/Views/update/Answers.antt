@@ -2,8 +2,11 @@ use Rattle.std.proofs.Common.{ap, arith}
 use Rattle.std.proofs.lemmas.Bool.{false≢true}
 use Rattle.std.proofs.lemmas.List.{with_items_is}
 use Rattle.reducer_views.proofs.Slots.{full, way_room}
-use Rattle.reducer_views.proofs.Following.{home_read, home_lent, updated_sound, updated_lent}
+use Rattle.reducer_views.proofs.Following.{there_lent, home_read, home_lent, updated_sound, updated_lent}
 use Rattle.reducer_views.proofs.views.Views.update.Goals as goal
+
+pub home_of-home-requires : goal.home_of-home-requires
+home_of-home-requires g c = record { known = there_lent _ _ _ _ _ _ c.self.view_is c.deref.ensures.value c.requires.there }
 
 pub gather_at-requires-clause-home_known : goal.gather_at-requires-clause-home_known
 gather_at-requires-clause-home_known g c = home_lent _ _ _ _ _ c.self.invariant.0 c.deref_mut.ensures.value (home_read _ _ _ _ c.deref.ensures.value c.home_of-home.ensures)

@@ -40,6 +40,12 @@ overflow_sub-children_left g c =
     ap (λ (k : Record). k.children_left) (c.record_of-joining.ensures ∙ put.others c.args.join (λ e. apart (sym e))) ∙ (f.each c.args.join join_lt).children in
     grind (arith, some, its)
 
+pub put-requires : goal.put-requires
+put-requires g c =
+    let (history, f) = c.self.invariant.0 in
+    let now = subst (λ r. Follows r history) c.self.view_is f in
+    omega (arith, c.set_standing.ensures.put.len, join-known _ history f c.args.strand c.args.join (ap enclosing (c.requires.child history now).1))
+
 pub put-requires-else-children_left-eq0 : goal.put-requires-else-children_left-eq0
 put-requires-else-children_left-eq0 g c =
     let (history, f) = c.self.invariant.0 in

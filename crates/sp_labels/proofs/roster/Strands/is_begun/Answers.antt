@@ -5,6 +5,9 @@ use Rattle.sp_labels.proofs.Packed.{length-unpacked, known-unpacked}
 use Rattle.sp_labels.proofs.Queries.{begun-standing, begun-kept, has-begun-known, not-begun}
 use Rattle.sp_labels.proofs.roster.Strands.is_begun.Goals as goal
 
+pub record_of-requires : goal.record_of-requires
+record_of-requires g c = known-unpacked c.self.inside.records.items c.args.strand (omega (arith, c.if-strand-len.true, c.len.ensures, c.self.inside.records.ok))
+
 pub returns-else-strand-len-clause-each : goal.returns-else-strand-len-clause-each
 returns-else-strand-len-clause-each g c history f =
     let seen = subst (λ r. Follows r history) (sym c.self.view_is) f in

@@ -13,6 +13,9 @@ use Rattle.sp_labels.proofs.roster.Strands.ret.Goals as goal
 pub record_of-kept-requires : goal.record_of-kept-requires
 record_of-kept-requires g c = acting-known _ _ _ _ c.self.view_is c.self.invariant.0 c.is_running.ensures.running c.if-not-is_running.false
 
+pub put-requires : goal.put-requires
+put-requires g c = acting-known _ _ _ _ c.self.view_is c.self.invariant.0 c.is_running.ensures.running c.if-not-is_running.false
+
 pub remove-scope-requires : goal.remove-scope-requires
 remove-scope-requires g c =
     let (history, f) = c.self.invariant.0 in
@@ -44,6 +47,9 @@ pub invariant_of-self-in-Root : goal.invariant_of-self-in-Root
 invariant_of-self-in-Root g c =
     let (history, f) = c.self.invariant.0 in
     ((finished c.args.strand ∷ history, returns-in-Root-clause-ok g c history (subst (λ r. Follows r history) c.self.view_is f)), no-room)
+
+pub end_child-requires-clause-running : goal.end_child-requires-clause-running
+end_child-requires-clause-running g c history now = (c.is_running.ensures.running history now).0 c.if-not-is_running.false
 
 pub end_child-requires-clause-child : goal.end_child-requires-clause-child
 end_child-requires-clause-child g c history now =

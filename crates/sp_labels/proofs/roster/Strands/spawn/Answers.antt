@@ -9,6 +9,13 @@ use Rattle.sp_labels.proofs.roster.Strands.spawn.Goals as goal
 pub record_of-requires : goal.record_of-requires
 record_of-requires g c = acting-known _ _ _ _ c.self.view_is c.self.invariant.0 (λ history made. c.is_running.ensures.running history (reserved-follows _ _ history c.in_ok-reserve_event.ensures.ok made)) c.if-not-is_running.false
 
+pub spawn_in_block-requires-clause-room : goal.spawn_in_block-requires-clause-room
+spawn_in_block-requires-clause-room g c = ap (λ (r : Roster). r.has_room) c.in_ok-reserve_event.ensures.ok
+
+pub spawn_in_block-requires-clause-running : goal.spawn_in_block-requires-clause-running
+spawn_in_block-requires-clause-running g c history now =
+    (c.is_running.ensures.running history (reserved-follows _ _ history c.in_ok-reserve_event.ensures.ok now)).0 c.if-not-is_running.false
+
 pub spawn_in_block-requires-clause-in_block : goal.spawn_in_block-requires-clause-in_block
 spawn_in_block-requires-clause-in_block g c history now =
     let f = subst (λ r. Follows r history) (sym c.self.view_is) now in

@@ -12,12 +12,19 @@ use Rattle.sp_labels.proofs.roster.Strands.sync.Goals as goal
 pub record_of-requires : goal.record_of-requires
 record_of-requires g c = acting-known _ _ _ _ c.self.view_is c.self.invariant.0 c.is_running.ensures.running c.if-not-is_running.false
 
+pub set_standing-requires : goal.set_standing-requires
+set_standing-requires g c = acting-known _ _ _ _ c.self.view_is c.self.invariant.0 c.is_running.ensures.running c.if-not-is_running.false
+
 pub record_of-requires-in-Block : goal.record_of-requires-in-Block
 record_of-requires-in-Block g c =
     omega (arith, c.set_standing.ensures.put.len, block-known _ _ _ _ _ _ c.self.view_is c.self.invariant.0 c.is_running.ensures.running c.if-not-is_running.false c.record_of.ensures c.in-Block.is)
 
 pub set_standing-requires-then-record_of-eq0 : goal.set_standing-requires-then-record_of-eq0
 set_standing-requires-then-record_of-eq0 g c =
+    omega (arith, c.set_standing.ensures.put.len, block-known _ _ _ _ _ _ c.self.view_is c.self.invariant.0 c.is_running.ensures.running c.if-not-is_running.false c.record_of.ensures c.in-Block.is)
+
+pub set_standing-requires-else-record_of-eq0 : goal.set_standing-requires-else-record_of-eq0
+set_standing-requires-else-record_of-eq0 g c =
     omega (arith, c.set_standing.ensures.put.len, block-known _ _ _ _ _ _ c.self.view_is c.self.invariant.0 c.is_running.ensures.running c.if-not-is_running.false c.record_of.ensures c.in-Block.is)
 
 pub returns-then-record_of-eq0-clause-ok : goal.returns-then-record_of-eq0-clause-ok
