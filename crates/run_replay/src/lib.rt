@@ -13,4 +13,4 @@ mod wraps;
 
 pub use replays::{ReplayFault, follow, replay};
 pub use turn::Misfit;
-pub use wraps::{Wraps, find_wraps, index_at};
+pub use wraps::{Wraps, find_wraps};

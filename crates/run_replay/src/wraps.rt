@@ -21,13 +21,6 @@ use std::collections::BTreeMap;
 /// The first index that wrapped at each line.
 pub type Wraps<A> = BTreeMap<u32, u64, A>;
 
-/// The index that is kept for a line.
-pub fn index_at<A: Allocator + Copy>(wraps: &Wraps<A>, line: u32) -> Option<u64>
-    ensures { result ≡ index_at wraps.now line }
-{
-    wraps.get(&line).copied()
-}
-
 /// Keeps an index for a line, unless one is kept.
 fn keep_first<A: Allocator + Copy>(
     wraps: &mut Wraps<A>,
