@@ -223,11 +223,7 @@ fn read_behind<R: Read>(
 }
 
 /// Makes of a head all that was read.
-fn restore(
-    alloc: Global,
-    head: &mut Vec<u8>,
-    found: Tail,
-) -> Result<(), AllocError>
+fn restore(alloc: Global, head: &mut Vec<u8>, found: Tail) -> Result<(), AllocError>
     ensures { OnOk result (head.new.items ≡ restored head.old.items found) }
 {
     head.truncate(found.end);
@@ -292,10 +288,7 @@ fn keep_found<R: Read>(
 }
 
 /// Reads all that is left. Of a trace whose lines behind the first piece are plain lines of requests, the head alone is kept.
-pub fn read_kept<R: Read>(
-    alloc: Global,
-    input: &mut Watched<R>,
-) -> Result<KeptText, CliFault>
+pub fn read_kept<R: Read>(alloc: Global, input: &mut Watched<R>) -> Result<KeptText, CliFault>
     requires { has_failed input.old ≡ false }
     ensures ok { IfOk result (λ kept. IsRead (R.remaining (held input.old)) (R.remaining (held input.new)) (text_of kept)) }
     ensures kept { IfOk result IsKept }

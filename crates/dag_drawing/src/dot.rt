@@ -44,13 +44,7 @@ fn push_lines(text: &mut TextBuilder, lines: &[String])
 }
 
 /// Adds a strand with its accesses.
-fn push_box(
-    alloc: Global,
-    text: &mut TextBuilder,
-    names: &Names<'_>,
-    strand: usize,
-    own: &[Access],
-)
+fn push_box(alloc: Global, text: &mut TextBuilder, names: &Names<'_>, strand: usize, own: &[Access])
     requires numbered { IsTrue (is_numbered 0 names.now.mems.now) }
     ensures { Adds text.old (box_text strand (node_lines (naming_of names.now) strand own.now)) text.new }
 {
@@ -105,12 +99,7 @@ fn push_edges(text: &mut TextBuilder, edges: &[Edge])
 }
 
 /// Adds a race.
-fn push_race(
-    alloc: Global,
-    text: &mut TextBuilder,
-    names: &Names<'_>,
-    race: &Race,
-)
+fn push_race(alloc: Global, text: &mut TextBuilder, names: &Names<'_>, race: &Race)
     requires numbered { IsTrue (is_numbered 0 names.now.mems.now) }
     ensures { Adds text.old (arc_text (naming_of names.now) race.now) text.new }
 {
@@ -127,12 +116,7 @@ fn push_race(
 }
 
 /// Adds races.
-fn push_races(
-    alloc: Global,
-    text: &mut TextBuilder,
-    names: &Names<'_>,
-    races: &[Race],
-)
+fn push_races(alloc: Global, text: &mut TextBuilder, names: &Names<'_>, races: &[Race])
     requires numbered { IsTrue (is_numbered 0 names.now.mems.now) }
     ensures { Adds text.old (flat_map (arc_text (naming_of names.now)) races.now) text.new }
 {
@@ -155,11 +139,7 @@ fn push_heading(text: &mut TextBuilder, runs: &[String])
 
 /// The text of a drawing in Graphviz's language: above the graph what was recorded, a node for each strand, an edge for each edge of the
 /// dag, and a red edge for each race. Errors where there is no memory.
-pub fn dot_text(
-    alloc: Global,
-    names: &Names<'_>,
-    drawing: &Drawing,
-) -> Result<Vec<u8>, AllocError>
+pub fn dot_text(alloc: Global, names: &Names<'_>, drawing: &Drawing) -> Result<Vec<u8>, AllocError>
     requires numbered { IsTrue (is_numbered 0 names.now.mems.now) }
     ensures { IfOk result (λ text. text.items ≡ dot_text (naming_of names.now) drawing.now) }
 {

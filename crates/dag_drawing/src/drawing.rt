@@ -112,10 +112,7 @@ fn race_at(entry: usize, told: Entry) -> Option<Race>
 }
 
 /// The accesses in order of entries.
-fn accesses_of(
-    alloc: Global,
-    entries: &[Entry],
-) -> Result<Vec<Access>, AllocError>
+fn accesses_of(alloc: Global, entries: &[Entry]) -> Result<Vec<Access>, AllocError>
     ensures { IfOk result (λ found. found.items ≡ accesses_told entries.now) }
 {
     let mut found = Vec::new(alloc);
@@ -141,10 +138,7 @@ fn races_of(alloc: Global, entries: &[Entry]) -> Result<Vec<Race>, AllocError>
 }
 
 /// The numbers that are marked, in their order.
-fn collect_marked(
-    alloc: Global,
-    marks: &[bool],
-) -> Result<Vec<usize>, AllocError>
+fn collect_marked(alloc: Global, marks: &[bool]) -> Result<Vec<usize>, AllocError>
     ensures { IfOk result (λ strands. strands.items ≡ marked_from 0 marks.now) }
 {
     let mut strands = Vec::new(alloc);
@@ -157,11 +151,7 @@ fn collect_marked(
 }
 
 /// The edges that lead to marked numbers.
-fn edges_to(
-    alloc: Global,
-    edges: &[Edge],
-    marks: &[bool],
-) -> Result<Vec<Edge>, AllocError>
+fn edges_to(alloc: Global, edges: &[Edge], marks: &[bool]) -> Result<Vec<Edge>, AllocError>
     ensures { IfOk result (λ kept. kept.items ≡ filter (has_mark marks.now) edges.now) }
 {
     let mut kept = Vec::new(alloc);
@@ -174,10 +164,7 @@ fn edges_to(
 }
 
 /// The accesses by their strands, and those of one strand in order of entries.
-fn sorted_accesses(
-    alloc: Global,
-    entries: &[Entry],
-) -> Result<Vec<Access>, AllocError>
+fn sorted_accesses(alloc: Global, entries: &[Entry]) -> Result<Vec<Access>, AllocError>
     ensures { IfOk result (λ accesses. AreAccesses entries.now accesses.items) }
 {
     let mut accesses = accesses_of(alloc, entries)?;
@@ -210,10 +197,7 @@ fn drawing_of(
 
 /// The drawing of a history, whose entries are given from the oldest on, or None exactly where more than [`MOST_STRANDS`] strands have
 /// begun. Its time is that of sorting the entries, and its memory is linear in their number. Errors where there is no memory.
-pub fn draw(
-    alloc: Global,
-    entries: &[Entry],
-) -> Result<Option<Drawing>, AllocError>
+pub fn draw(alloc: Global, entries: &[Entry]) -> Result<Option<Drawing>, AllocError>
     requires { IsLegalHistory (reverse entries.now) }
     ensures { IfOk result (λ told. MatchOption told (HasMoreStrands (control_part (reverse entries.now))) (IsDrawing entries.now)) }
 {

@@ -33,11 +33,7 @@ pub struct Names<'a> {
 }
 
 /// Adds the name that the trace declares for what an act accesses.
-fn put_plain_name(
-    name: &mut String,
-    names: &Names<'_>,
-    act: Act,
-) -> Result<(), AllocError>
+fn put_plain_name(name: &mut String, names: &Names<'_>, act: Act) -> Result<(), AllocError>
     requires numbered { IsTrue (is_numbered 0 names.now.mems.now) }
     ensures { OnOk result (string_bytes name.new ≡ string_bytes name.old ++ plain_name (naming_of names.now) act) }
 {
@@ -53,11 +49,7 @@ fn put_plain_name(
 }
 
 /// The name that the trace declares for what an act accesses.
-fn plain_name(
-    alloc: Global,
-    names: &Names<'_>,
-    act: Act,
-) -> Result<String, AllocError>
+fn plain_name(alloc: Global, names: &Names<'_>, act: Act) -> Result<String, AllocError>
     requires numbered { IsTrue (is_numbered 0 names.now.mems.now) }
     ensures { IfOk result (λ name. string_bytes name ≡ plain_name (naming_of names.now) act) }
 {
@@ -105,11 +97,7 @@ fn place_of<'a>(names: &Names<'a>, access: &Access) -> Option<Place<'a>>
 }
 
 /// Adds the place of an access, or the number of its entry.
-fn put_site(
-    line: &mut String,
-    names: &Names<'_>,
-    access: &Access,
-) -> Result<(), AllocError>
+fn put_site(line: &mut String, names: &Names<'_>, access: &Access) -> Result<(), AllocError>
     ensures { OnOk result (string_bytes line.new ≡ string_bytes line.old ++ site_text (place_of (naming_of names.now) access.now) access.now.entry) }
 {
     match place_of(names, access) {
@@ -139,11 +127,7 @@ fn put_access(
 }
 
 /// The line of an access.
-fn access_line(
-    alloc: Global,
-    names: &Names<'_>,
-    access: &Access,
-) -> Result<String, AllocError>
+fn access_line(alloc: Global, names: &Names<'_>, access: &Access) -> Result<String, AllocError>
     requires numbered { IsTrue (is_numbered 0 names.now.mems.now) }
     ensures { IfOk result (λ line. string_bytes line ≡ access_line (naming_of names.now) access.now) }
 {
@@ -166,11 +150,7 @@ fn first_place<'a>(names: &Names<'a>, own: &[Access]) -> Option<Place<'a>>
 }
 
 /// The first line of a strand whose first place is this.
-fn line_at(
-    alloc: Global,
-    strand: usize,
-    place: Option<Place<'_>>,
-) -> Result<String, AllocError>
+fn line_at(alloc: Global, strand: usize, place: Option<Place<'_>>) -> Result<String, AllocError>
     ensures { IfOk result (λ line. string_bytes line ≡ decimal strand ++ function_text (option_map place_parts place.entry)) }
 {
     match place {
@@ -185,10 +165,7 @@ fn line_at(
 }
 
 /// Adds a line that was made, where there was memory for it.
-fn add_line(
-    lines: &mut Vec<String>,
-    made: Result<String, AllocError>,
-) -> Result<(), AllocError>
+fn add_line(lines: &mut Vec<String>, made: Result<String, AllocError>) -> Result<(), AllocError>
     ensures { (line : List ℕ) → IfOk made (λ text. string_bytes text ≡ line) →
         OnOk result (map string_bytes lines.new.items ≡ map string_bytes lines.old.items ++ line ∷ []) }
 {
@@ -213,11 +190,7 @@ fn add_accesses(
 }
 
 /// Adds how many accesses are not told.
-fn add_rest(
-    alloc: Global,
-    lines: &mut Vec<String>,
-    count: usize,
-) -> Result<(), AllocError>
+fn add_rest(alloc: Global, lines: &mut Vec<String>, count: usize) -> Result<(), AllocError>
     ensures { OnOk result (map string_bytes lines.new.items ≡ map string_bytes lines.old.items ++ rest_lines count) }
 {
     if count > MOST_TOLD {
@@ -275,12 +248,7 @@ fn rule_of(act: Act, earlier: Kind) -> &'static str
 }
 
 /// What is written beside a race about what has this name.
-fn label_of(
-    alloc: Global,
-    names: &Names<'_>,
-    race: &Race,
-    name: &str,
-) -> Result<String, AllocError>
+fn label_of(alloc: Global, names: &Names<'_>, race: &Race, name: &str) -> Result<String, AllocError>
     requires { name.now ≡ plain_name (naming_of names.now) race.now.request.act }
     ensures { IfOk result (λ label. string_bytes label ≡ race_label (naming_of names.now) race.now) }
 {
@@ -290,11 +258,7 @@ fn label_of(
 }
 
 /// What is written beside a race.
-pub fn race_label(
-    alloc: Global,
-    names: &Names<'_>,
-    race: &Race,
-) -> Result<String, AllocError>
+pub fn race_label(alloc: Global, names: &Names<'_>, race: &Race) -> Result<String, AllocError>
     requires numbered { IsTrue (is_numbered 0 names.now.mems.now) }
     ensures { IfOk result (λ label. string_bytes label ≡ race_label (naming_of names.now) race.now) }
 {

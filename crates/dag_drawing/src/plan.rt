@@ -111,11 +111,7 @@ fn put(numbers: &mut Vec<u32>, at: usize, number: u32)
 }
 
 /// The levels of strands, by their numbers: what an edge leads to is on a level below that which it comes from.
-fn depths_of(
-    alloc: Global,
-    size: usize,
-    edges: &[Edge],
-) -> Result<Vec<u32>, AllocError>
+fn depths_of(alloc: Global, size: usize, edges: &[Edge]) -> Result<Vec<u32>, AllocError>
     ensures { IfOk result (λ depths. depths.items ≡ depths_by (replicate size 0) edges.now) }
 {
     let mut depths = vec![in alloc; 0u32; size]?;
@@ -128,12 +124,7 @@ fn depths_of(
 }
 
 /// Puts strands behind those of their levels.
-fn add_to_levels(
-    depths: &[u32],
-    counts: &mut Vec<u32>,
-    columns: &mut Vec<u32>,
-    strands: &[usize],
-)
+fn add_to_levels(depths: &[u32], counts: &mut Vec<u32>, columns: &mut Vec<u32>, strands: &[usize])
     ensures counts { counts.new.items ≡ counts_by depths.now counts.old.items strands.now }
     ensures columns { columns.new.items ≡ columns_by depths.now counts.old.items columns.old.items strands.now }
 {
@@ -229,11 +220,7 @@ fn last_of(numbers: &[usize]) -> usize
 }
 
 /// Where the boxes of a drawing stand.
-pub fn layout_of(
-    alloc: Global,
-    names: &Names<'_>,
-    drawing: &Drawing,
-) -> Result<Layout, AllocError>
+pub fn layout_of(alloc: Global, names: &Names<'_>, drawing: &Drawing) -> Result<Layout, AllocError>
     requires numbered { IsTrue (is_numbered 0 names.now.mems.now) }
     ensures { IfOk result (λ layout. plan_of layout ≡ plan (naming_of names.now) drawing.now) }
 {

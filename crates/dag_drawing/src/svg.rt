@@ -239,11 +239,7 @@ fn push_title(text: &mut TextBuilder, runs: &[String])
 
 /// The text of a drawing in SVG: above it what was recorded, a box for each strand, on a level below those that lead to it, a line for
 /// each edge of the dag, and a red arc for each race. Errors where there is no memory.
-pub fn svg_text(
-    alloc: Global,
-    names: &Names<'_>,
-    drawing: &Drawing,
-) -> Result<Vec<u8>, AllocError>
+pub fn svg_text(alloc: Global, names: &Names<'_>, drawing: &Drawing) -> Result<Vec<u8>, AllocError>
     requires numbered { IsTrue (is_numbered 0 names.now.mems.now) }
     ensures { IfOk result (λ text. text.items ≡ svg_text (naming_of names.now) drawing.now) }
 {

@@ -87,11 +87,7 @@ fn way_at(lineage: &Lineage, number: usize) -> Way
 }
 
 /// Spawns and calls by their numbers.
-fn links_at(
-    alloc: Global,
-    lineage: &Lineage,
-    numbers: &[usize],
-) -> Result<Vec<Link>, AllocError>
+fn links_at(alloc: Global, lineage: &Lineage, numbers: &[usize]) -> Result<Vec<Link>, AllocError>
     requires { IsSomeLineage lineage.now }
     ensures { IfOk result (λ links. (told : List Entry) → IsLineageOf lineage.now told → links.items ≡ map (link_at told) numbers.now) }
 {

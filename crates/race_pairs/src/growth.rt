@@ -59,11 +59,7 @@ fn add_frame(
 }
 
 /// Adds the strands that the spawn of the frame at a place makes: three where it opens a block, else two.
-fn add_strands(
-    strands: &mut Vec<Strand>,
-    maker: u32,
-    opens: bool,
-) -> Result<(), AllocError>
+fn add_strands(strands: &mut Vec<Strand>, maker: u32, opens: bool) -> Result<(), AllocError>
     ensures { IfOk result (λ _. strands.new.items ≡ strands.old.items ++ strands_made opens maker) }
 {
     let made = Strand { maker, turn: 0 };

@@ -38,11 +38,7 @@ fn jump_of(jumps: &[Jump], spawner: u32) -> Jump
 }
 
 /// Adds the jump of the strands that a spawn makes: three where it opens a block, else two.
-fn push_jumps(
-    jumps: &mut Vec<Jump>,
-    made: Jump,
-    opens: bool,
-) -> Result<(), AllocError>
+fn push_jumps(jumps: &mut Vec<Jump>, made: Jump, opens: bool) -> Result<(), AllocError>
     ensures { IfOk result (λ _. jumps.new.items ≡ jumps.old.items ++ jumps_made opens made) }
 {
     jumps.push(made)?;

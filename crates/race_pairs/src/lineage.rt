@@ -182,12 +182,7 @@ impl Lineage {
 
     /// The numbers of the entries of the spawns and calls that enclose what the strand does before the entry with this number, the
     /// innermost first. Its time is linear in their number and in the strand's own calls. Errors where there is no memory.
-    pub fn chain(
-        &self,
-        alloc: Global,
-        number: usize,
-        strand: u32,
-    ) -> Result<Vec<usize>, AllocError>
+    pub fn chain(&self, alloc: Global, number: usize, strand: u32) -> Result<Vec<usize>, AllocError>
         requires { IsSomeLineage self.now }
         ensures { IfOk result (λ chain. (later earlier : Entries) → IsLineage self.now (later ++ earlier) → number ≡ suc (length earlier) →
             chain.items ≡ frames earlier strand) }

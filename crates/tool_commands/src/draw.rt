@@ -32,11 +32,7 @@ fn drawing_of(alloc: Global, entries: &[Entry]) -> Result<Drawing, CliFault>
 }
 
 /// The text of the drawing of the trace that some bytes mean, and the exit status.
-fn draw_trace(
-    alloc: Global,
-    form: Form,
-    bytes: Vec<u8>,
-) -> Result<(Vec<u8>, u8), CliFault>
+fn draw_trace(alloc: Global, form: Form, bytes: Vec<u8>) -> Result<(Vec<u8>, u8), CliFault>
     ensures ok { IfOk result (λ told. DrawsText form bytes.items told.0.items told.1) }
     ensures fault { IfErr result (StopsText bytes.items) }
 {

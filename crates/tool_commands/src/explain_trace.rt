@@ -125,10 +125,7 @@ pub(crate) fn notes_of(alloc: Global, text: &[u8]) -> Result<Notes, AllocError>
 }
 
 /// The notes of a text that is kept. Plain lines of requests are none.
-pub(crate) fn notes_of_kept(
-    alloc: Global,
-    source: &KeptText,
-) -> Result<Notes, AllocError>
+pub(crate) fn notes_of_kept(alloc: Global, source: &KeptText) -> Result<Notes, AllocError>
     requires { IsKept source.now }
     ensures { IfOk result (AreNotes (lines (text_of source.now))) }
 {

@@ -67,11 +67,7 @@ fn add_first_named(
 }
 
 /// Adds a text.
-fn add_last(
-    alloc: Global,
-    texts: &mut Vec<String>,
-    text: &str,
-) -> Result<(), AllocError>
+fn add_last(alloc: Global, texts: &mut Vec<String>, text: &str) -> Result<(), AllocError>
     ensures { OnOk result (map string_bytes texts.new.items ≡ map string_bytes texts.old.items ++ text.now ∷ []) }
 {
     texts.push(String::from_str(alloc, text)?)?;
@@ -79,10 +75,7 @@ fn add_last(
 }
 
 /// The text under a name.
-fn find_text<'b>(
-    texts: &'b BTreeMap<String, String>,
-    name: &str,
-) -> Option<&'b str>
+fn find_text<'b>(texts: &'b BTreeMap<String, String>, name: &str) -> Option<&'b str>
     ensures { option_map (λ text. text.now) result ≡ text_in texts.now name.now }
 {
     match texts.get(name) {
