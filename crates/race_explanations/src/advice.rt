@@ -1,25 +1,21 @@
 //! Where two strands part, and what would order them.
 
 ghost use Rattle.std.specs.Prelude.{◌≡◌, ◌++◌, Some, IfOk, OnOk};
-ghost use Rattle.std.specs.Option.{option_map};
-ghost use Rattle.trace_notes.specs.Places.{place_parts};
 ghost use Rattle.text_buffers.specs.Builders.{Adds};
 ghost use Rattle.race_explanations.specs.Scenes.{setting_of};
 ghost use Rattle.race_explanations.specs.Advice.{between, line_on, spawn_line, function_word, parted_text, opened_text};
-ghost use Rattle.race_explanations.specs.Advice.{spawner_word, place_word, rounds_words, doing_word, doing_in, between_words, where_words};
-ghost use Rattle.race_explanations.specs.Names.{noted_function};
+ghost use Rattle.race_explanations.specs.Advice.{spawner_word, rounds_words, doing_word, doing_in, between_words, where_words};
 ghost use Rattle.race_explanations.specs.Paths.{line_words};
 ghost use Rattle.race_explanations.specs.Advice.{sync_place, order_words, missing_help, sync_help, move_help, put_help};
 ghost use Rattle.race_explanations.specs.Advice.{help_begun, help_note, sync_help_of, move_help_of, rounds_note, sync_note};
 
 use crate::paths::{push_line, push_shown};
 use crate::scene::{Origin, Scene};
-use crate::words::{are_in_one_call, are_in_one_function, function_in, line_of};
+use crate::words::{are_in_one_call, are_in_one_function, function_of, line_of};
 use race_pairs::{OpenSpawn, Pair, Parting};
 use source_quotes::{push_gutter, push_note_sign};
 use std::alloc::{AllocError, Global};
 use text_buffers::TextBuilder;
-use trace_notes::Place;
 
 /// Adds what stands between two quotes.
 pub(crate) fn push_between(text: &mut TextBuilder, scene: &Scene<'_, '_>)
@@ -63,28 +59,13 @@ fn push_name(text: &mut TextBuilder, name: &str)
     text.push_words("`");
 }
 
-/// Adds in which function a place is, or that it is the one that spawns.
-fn push_place_name(text: &mut TextBuilder, place: Option<Place<'_>>)
-    ensures { Adds text.old (place_word (option_map place_parts place.entry)) text.new }
-{
-    match place {
-        Some(
-            Place {
-                function: Some(name),
-                ..
-            },
-        ) => push_name(text, name),
-        _ => text.push_words("the spawner"),
-    }
-}
-
-/// Adds the name of the function in which a line stands.
+/// Adds the name of the function in which a line stands, or that it is the one that spawns.
 pub(crate) fn push_function(text: &mut TextBuilder, scene: &Scene<'_, '_>, line: u32)
     ensures { Adds text.old (function_word (setting_of scene.now) line) text.new }
 {
-    match &scene.origin {
-        Origin::Program { program, .. } => push_name(text, function_in(program, line)),
-        Origin::Trace { notes } => push_place_name(text, notes.place_of(line)),
+    match function_of(scene, line) {
+        Some(name) => push_name(text, name),
+        None => text.push_words("the spawner"),
     }
 }
 
@@ -129,36 +110,16 @@ fn rounds_words(scene: &Scene<'_, '_>) -> &'static str
     }
 }
 
-/// Adds what a function does.
-fn push_does(text: &mut TextBuilder, name: &str)
-    ensures { Adds text.old (doing_word (Some name.now)) text.new }
-{
-    push_name(text, name);
-    text.push_words(" does");
-}
-
-/// Adds what the function of a place does, where it is known.
-fn push_place_does(text: &mut TextBuilder, place: Option<Place<'_>>)
-    ensures { Adds text.old (doing_word (noted_function (option_map place_parts place.entry))) text.new }
-{
-    match place {
-        Some(
-            Place {
-                function: Some(name),
-                ..
-            },
-        ) => push_does(text, name),
-        _ => text.push_words("is done"),
-    }
-}
-
 /// Adds what the function does in which a line stands, where it is known.
 fn push_doing(text: &mut TextBuilder, scene: &Scene<'_, '_>, line: u32)
     ensures { Adds text.old (doing_in (setting_of scene.now).origin line) text.new }
 {
-    match &scene.origin {
-        Origin::Program { program, .. } => push_does(text, function_in(program, line)),
-        Origin::Trace { notes } => push_place_does(text, notes.place_of(line)),
+    match function_of(scene, line) {
+        Some(name) => {
+            push_name(text, name);
+            text.push_words(" does");
+        }
+        None => text.push_words("is done"),
     }
 }
 
