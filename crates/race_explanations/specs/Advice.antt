@@ -95,20 +95,15 @@ doing_word None = codes "is done"
 abbrev pub doing_in : Origin → ℕ → List ℕ
 doing_in origin line = doing_word (function_of origin line)
 
--- before another line of the function that spawns
-abbrev pub before_words : Origin → (onward : ℕ) → List ℕ
-before_words origin onward = codes " before " ++ line_words origin onward
-
 -- between the spawn on a line and what another function does on another line
 abbrev pub between_words : Origin → (line onward : ℕ) → List ℕ
 between_words origin line onward =
-    (codes " between the spawn at " ++ line_words origin line) ++ (codes " and what " ++ doing_in origin onward) ++
-    (codes " at " ++ line_words origin onward)
+    codes " between the spawn at " ++ line_words origin line ++ codes " and what " ++ doing_in origin onward ++ codes " at "
 
 -- A line of another function does not say where in the function that spawns.
 abbrev pub where_words : Origin → (line onward : ℕ) → List ℕ
 where_words origin line onward =
-    if are_in_one_function origin line onward then before_words origin onward else between_words origin line onward
+    (if are_in_one_function origin line onward then codes " before " else between_words origin line onward) ++ line_words origin onward
 
 -- a sync in the function that spawns on a line, before it goes on to another line
 abbrev pub sync_place : Setting → (line onward : ℕ) → List ℕ
