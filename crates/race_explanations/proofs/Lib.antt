@@ -5,6 +5,7 @@ mod Placing
 mod TraceAdding
 pub mod FindingTexts
 mod Functions
+mod Helping
 mod Named
 mod OrderedGroups
 mod OrderedFindings

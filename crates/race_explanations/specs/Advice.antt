@@ -2,14 +2,12 @@
 use Rattle.std.specs.Prelude.{ℕ, ◌==◌, ◌&&◌, Bool, List, [], ◌++◌, codes, Option, Some, None, if◌then◌else◌}
 use Rattle.source_quotes.specs.declared.look.Look.{Look}
 use Rattle.source_quotes.specs.Quotes.{noted, gutter}
-use Rattle.trace_notes.specs.Places.{PlaceParts}
-use Rattle.trace_notes.specs.Notes.{noted_place}
 use Rattle.race_pairs.specs.declared.lineage.Parting.{Parting}
 use Rattle.race_pairs.specs.declared.lineage.OpenSpawn.{OpenSpawn}
 use Rattle.race_pairs.specs.Refusals.{line_in}
 use Rattle.race_pairs.specs.declared.race.Pair.{Pair}
 use Rattle.race_explanations.specs.Settings.{Origin, in_program, in_trace, Setting}
-use Rattle.race_explanations.specs.Names.{function_at, noted_function, are_in_one_function, are_in_one_call}
+use Rattle.race_explanations.specs.Names.{function_of, are_in_one_function, are_in_one_call}
 use Rattle.race_explanations.specs.Paths.{line_words, shown_line}
 
 -- ---- words
@@ -52,16 +50,8 @@ abbrev pub spawner_word : Option (List ℕ) → List ℕ
 spawner_word (Some name) = codes "`" ++ name ++ codes "`"
 spawner_word None = codes "the spawner"
 
-abbrev pub place_word : Option PlaceParts → List ℕ
-place_word (Some place) = spawner_word place.function
-place_word None = spawner_word None
-
-abbrev pub function_in : Origin → ℕ → List ℕ
-function_in (in_program file source functions) line = spawner_word (Some (function_at functions line))
-function_in (in_trace notes) line = place_word (noted_place notes line)
-
 abbrev pub function_word : Setting → ℕ → List ℕ
-function_word setting line = function_in setting.origin line
+function_word setting line = spawner_word (function_of setting.origin line)
 
 -- That two strands part at a spawn: whither the child comes, and how its spawner goes on.
 abbrev pub parts_text : Setting → Pair → (refused : ℕ) → Parting → ℕ → List ℕ
@@ -103,23 +93,17 @@ doing_word (Some name) = spawner_word (Some name) ++ codes " does"
 doing_word None = codes "is done"
 
 abbrev pub doing_in : Origin → ℕ → List ℕ
-doing_in (in_program file source functions) line = doing_word (Some (function_at functions line))
-doing_in (in_trace notes) line = doing_word (noted_function (noted_place notes line))
-
--- before another line of the function that spawns
-abbrev pub before_words : Origin → (onward : ℕ) → List ℕ
-before_words origin onward = codes " before " ++ line_words origin onward
+doing_in origin line = doing_word (function_of origin line)
 
 -- between the spawn on a line and what another function does on another line
 abbrev pub between_words : Origin → (line onward : ℕ) → List ℕ
 between_words origin line onward =
-    (codes " between the spawn at " ++ line_words origin line) ++ (codes " and what " ++ doing_in origin onward) ++
-    (codes " at " ++ line_words origin onward)
+    codes " between the spawn at " ++ line_words origin line ++ codes " and what " ++ doing_in origin onward ++ codes " at "
 
 -- A line of another function does not say where in the function that spawns.
 abbrev pub where_words : Origin → (line onward : ℕ) → List ℕ
 where_words origin line onward =
-    if are_in_one_function origin line onward then before_words origin onward else between_words origin line onward
+    (if are_in_one_function origin line onward then codes " before " else between_words origin line onward) ++ line_words origin onward
 
 -- a sync in the function that spawns on a line, before it goes on to another line
 abbrev pub sync_place : Setting → (line onward : ℕ) → List ℕ

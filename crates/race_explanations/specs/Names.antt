@@ -26,6 +26,11 @@ abbrev pub noted_function : Option PlaceParts → Option (List ℕ)
 noted_function (Some place) = place.function
 noted_function None = None
 
+-- the function in which a line stands, where it is known
+abbrev pub function_of : Origin → ℕ → Option (List ℕ)
+function_of (in_program file source functions) line = Some (function_at functions line)
+function_of (in_trace notes) line = noted_function (noted_place notes line)
+
 -- the two are one name, or there is none of both
 abbrev pub is_one_name : Option (List ℕ) → Option (List ℕ) → Bool
 is_one_name (Some one) (Some other) = bytes_eq one other
@@ -35,9 +40,7 @@ is_one_name None None = true
 
 -- two lines stand in one function, as far as it is known
 abbrev pub are_in_one_function : Origin → (line other : ℕ) → Bool
-are_in_one_function (in_program file source functions) line other = bytes_eq (function_at functions line) (function_at functions other)
-are_in_one_function (in_trace notes) line other =
-    is_one_name (noted_function (noted_place notes line)) (noted_function (noted_place notes other))
+are_in_one_function origin line other = is_one_name (function_of origin line) (function_of origin other)
 
 -- no note of the trace says where the line is
 abbrev pub is_unnoted : Notes → ℕ → Bool

@@ -1,25 +1,19 @@
 //! Where two strands part, and what would order them.
 
-ghost use Rattle.std.specs.Prelude.{◌≡◌, ◌++◌, Some, IfOk, OnOk};
-ghost use Rattle.std.specs.Option.{option_map};
-ghost use Rattle.trace_notes.specs.Places.{place_parts};
+ghost use Rattle.std.specs.Prelude.{◌≡◌, ◌++◌, Some};
 ghost use Rattle.text_buffers.specs.Builders.{Adds};
 ghost use Rattle.race_explanations.specs.Scenes.{setting_of};
 ghost use Rattle.race_explanations.specs.Advice.{between, line_on, spawn_line, function_word, parted_text, opened_text};
-ghost use Rattle.race_explanations.specs.Advice.{spawner_word, place_word, rounds_words, doing_word, doing_in, between_words, where_words};
-ghost use Rattle.race_explanations.specs.Names.{noted_function};
-ghost use Rattle.race_explanations.specs.Paths.{line_words};
+ghost use Rattle.race_explanations.specs.Advice.{spawner_word, rounds_words, doing_word, doing_in, where_words};
 ghost use Rattle.race_explanations.specs.Advice.{sync_place, order_words, missing_help, sync_help, move_help, put_help};
-ghost use Rattle.race_explanations.specs.Advice.{help_begun, help_note, sync_help_of, move_help_of, rounds_note, sync_note};
+ghost use Rattle.race_explanations.specs.Advice.{help_begun, rounds_note, sync_note};
 
 use crate::paths::{push_line, push_shown};
 use crate::scene::{Origin, Scene};
-use crate::words::{are_in_one_call, are_in_one_function, function_in, line_of};
+use crate::words::{are_in_one_call, are_in_one_function, function_of, line_of};
 use race_pairs::{OpenSpawn, Pair, Parting};
 use source_quotes::{push_gutter, push_note_sign};
-use std::alloc::{AllocError, Global};
 use text_buffers::TextBuilder;
-use trace_notes::Place;
 
 /// Adds what stands between two quotes.
 pub(crate) fn push_between(text: &mut TextBuilder, scene: &Scene<'_, '_>)
@@ -63,28 +57,13 @@ fn push_name(text: &mut TextBuilder, name: &str)
     text.push_words("`");
 }
 
-/// Adds in which function a place is, or that it is the one that spawns.
-fn push_place_name(text: &mut TextBuilder, place: Option<Place<'_>>)
-    ensures { Adds text.old (place_word (option_map place_parts place.entry)) text.new }
-{
-    match place {
-        Some(
-            Place {
-                function: Some(name),
-                ..
-            },
-        ) => push_name(text, name),
-        _ => text.push_words("the spawner"),
-    }
-}
-
-/// Adds the name of the function in which a line stands.
+/// Adds the name of the function in which a line stands, or that it is the one that spawns.
 pub(crate) fn push_function(text: &mut TextBuilder, scene: &Scene<'_, '_>, line: u32)
     ensures { Adds text.old (function_word (setting_of scene.now) line) text.new }
 {
-    match &scene.origin {
-        Origin::Program { program, .. } => push_name(text, function_in(program, line)),
-        Origin::Trace { notes } => push_place_name(text, notes.place_of(line)),
+    match function_of(scene, line) {
+        Some(name) => push_name(text, name),
+        None => text.push_words("the spawner"),
     }
 }
 
@@ -129,55 +108,17 @@ fn rounds_words(scene: &Scene<'_, '_>) -> &'static str
     }
 }
 
-/// Adds what a function does.
-fn push_does(text: &mut TextBuilder, name: &str)
-    ensures { Adds text.old (doing_word (Some name.now)) text.new }
-{
-    push_name(text, name);
-    text.push_words(" does");
-}
-
-/// Adds what the function of a place does, where it is known.
-fn push_place_does(text: &mut TextBuilder, place: Option<Place<'_>>)
-    ensures { Adds text.old (doing_word (noted_function (option_map place_parts place.entry))) text.new }
-{
-    match place {
-        Some(
-            Place {
-                function: Some(name),
-                ..
-            },
-        ) => push_does(text, name),
-        _ => text.push_words("is done"),
-    }
-}
-
 /// Adds what the function does in which a line stands, where it is known.
 fn push_doing(text: &mut TextBuilder, scene: &Scene<'_, '_>, line: u32)
     ensures { Adds text.old (doing_in (setting_of scene.now).origin line) text.new }
 {
-    match &scene.origin {
-        Origin::Program { program, .. } => push_does(text, function_in(program, line)),
-        Origin::Trace { notes } => push_place_does(text, notes.place_of(line)),
+    match function_of(scene, line) {
+        Some(name) => {
+            push_name(text, name);
+            text.push_words(" does");
+        }
+        None => text.push_words("is done"),
     }
-}
-
-/// Adds words before a line.
-fn push_words_at(text: &mut TextBuilder, scene: &Scene<'_, '_>, words: &str, line: u32)
-    ensures { Adds text.old (words.now ++ line_words (setting_of scene.now).origin line) text.new }
-{
-    text.push_words(words);
-    push_line(text, scene, line);
-}
-
-/// Adds between which spawn and what another function does.
-fn push_between_lines(text: &mut TextBuilder, scene: &Scene<'_, '_>, line: u32, onward: u32)
-    ensures { Adds text.old (between_words (setting_of scene.now).origin line onward) text.new }
-{
-    push_words_at(text, scene, " between the spawn at ", line);
-    text.push_words(" and what ");
-    push_doing(text, scene, onward);
-    push_words_at(text, scene, " at ", onward);
 }
 
 /// Adds where a sync stands that comes before a line.
@@ -185,10 +126,15 @@ fn push_where_before(text: &mut TextBuilder, scene: &Scene<'_, '_>, line: u32, o
     ensures { Adds text.old (where_words (setting_of scene.now).origin line onward) text.new }
 {
     if are_in_one_function(scene, line, onward) {
-        push_words_at(text, scene, " before ", onward);
+        text.push_words(" before ");
     } else {
-        push_between_lines(text, scene, line, onward);
+        text.push_words(" between the spawn at ");
+        push_line(text, scene, line);
+        text.push_words(" and what ");
+        push_doing(text, scene, onward);
+        text.push_words(" at ");
     }
+    push_line(text, scene, onward);
 }
 
 /// Adds a sync in the function that spawns on a line, before it goes on to another line.
@@ -227,7 +173,7 @@ fn push_missing(
 }
 
 /// Adds what orders two strands that part at a spawn on one line, behind which the spawner goes on to another.
-fn push_sync_help(
+pub(crate) fn push_sync_help(
     text: &mut TextBuilder,
     scene: &Scene<'_, '_>,
     line: u32,
@@ -244,7 +190,7 @@ fn push_sync_help(
 }
 
 /// Adds what makes a read on one line the same in every run, where a spawn on another is outstanding.
-fn push_move_help(text: &mut TextBuilder, scene: &Scene<'_, '_>, at: u32, line: u32)
+pub(crate) fn push_move_help(text: &mut TextBuilder, scene: &Scene<'_, '_>, at: u32, line: u32)
     ensures { Adds text.old (move_help (setting_of scene.now) at line) text.new }
 {
     text.push_words("move what stands on ");
@@ -255,7 +201,7 @@ fn push_move_help(text: &mut TextBuilder, scene: &Scene<'_, '_>, at: u32, line: 
 }
 
 /// What makes a get find something.
-fn put_help() -> &'static str
+pub(crate) fn put_help() -> &'static str
     ensures { result.now ≡ put_help }
 {
     "a `put` into it has to come first in the serial order"
@@ -293,57 +239,6 @@ pub(crate) fn push_sync(
     text.push_words("\n");
 }
 
-/// Adds a note on what orders two strands that part there.
-pub(crate) fn push_sync_note(
-    text: &mut TextBuilder,
-    scene: &Scene<'_, '_>,
-    onward: u32,
-    is_sure: bool,
-    parting: Option<Parting>,
-)
-    ensures { Adds text.old (help_note (setting_of scene.now) (sync_help_of (setting_of scene.now) onward is_sure parting)) text.new }
-{
-    match parting {
-        Some(parting) => {
-            begin_help(text, scene);
-            let line = line_of(scene, parting.entry);
-            push_sync_help(text, scene, line, onward, is_sure);
-            text.push_words("\n");
-        }
-        None => {}
-    }
-}
-
-/// Adds a note on what makes a read the same in every run.
-pub(crate) fn push_move_note(
-    text: &mut TextBuilder,
-    scene: &Scene<'_, '_>,
-    pair: &Pair,
-    refused: u32,
-    spawn: Option<OpenSpawn>,
-)
-    ensures { Adds text.old (help_note (setting_of scene.now) (move_help_of (setting_of scene.now) pair.now refused spawn)) text.new }
-{
-    match spawn {
-        Some(spawn) => {
-            begin_help(text, scene);
-            let at = line_on(pair, refused, spawn.parallel);
-            push_move_help(text, scene, at, line_of(scene, spawn.entry));
-            text.push_words("\n");
-        }
-        None => {}
-    }
-}
-
-/// Adds a note on what makes a get find something.
-pub(crate) fn push_put_note(text: &mut TextBuilder, scene: &Scene<'_, '_>)
-    ensures { Adds text.old (help_note (setting_of scene.now) (Some put_help)) text.new }
-{
-    begin_help(text, scene);
-    text.push_words(put_help());
-    text.push_words("\n");
-}
-
 /// Adds which spawn makes the peers of two reads differ: it is outstanding at one of them and not at the other.
 pub(crate) fn push_opened(
     text: &mut TextBuilder,
@@ -367,42 +262,4 @@ pub(crate) fn push_opened(
         }
         None => {}
     }
-}
-
-/// What orders two strands that part at a spawn on one line, behind which the spawner goes on to another.
-pub(crate) fn sync_help(
-    alloc: Global,
-    scene: &Scene<'_, '_>,
-    line: u32,
-    onward: u32,
-    is_sure: bool,
-) -> Result<Vec<u8>, AllocError>
-    ensures { IfOk result (λ help. help.items ≡ sync_help (setting_of scene.now) line onward is_sure) }
-{
-    let mut text = TextBuilder::new(alloc);
-    push_sync_help(&mut text, scene, line, onward, is_sure);
-    text.end()
-}
-
-/// What makes a read on one line the same in every run, where a spawn on another is outstanding.
-pub(crate) fn move_help(
-    alloc: Global,
-    scene: &Scene<'_, '_>,
-    at: u32,
-    line: u32,
-) -> Result<Vec<u8>, AllocError>
-    ensures { IfOk result (λ help. help.items ≡ move_help (setting_of scene.now) at line) }
-{
-    let mut text = TextBuilder::new(alloc);
-    push_move_help(&mut text, scene, at, line);
-    text.end()
-}
-
-/// What makes a get find something.
-pub(crate) fn put_words(alloc: Global) -> Result<Vec<u8>, AllocError>
-    ensures { IfOk result (λ help. help.items ≡ put_help) }
-{
-    let mut text = TextBuilder::new(alloc);
-    text.push_words(put_help());
-    text.end()
 }

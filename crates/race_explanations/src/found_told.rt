@@ -130,22 +130,14 @@ fn tell_head(text: &mut TextBuilder, findings: &[Finding], head: usize, places: 
     text.push_words("\n");
 }
 
-/// Tells of the finding at a place as of one of several.
-fn tell_member_at(text: &mut TextBuilder, findings: &[Finding], place: usize)
-    ensures { Adds text.old (found_member findings.now place) text.new }
-{
-    match findings.get(place) {
-        Some(finding) => tell_with(text, finding, finding.own_help.as_slice()),
-        None => {}
-    }
-}
-
 /// Tells of findings as of several.
 fn tell_members(text: &mut TextBuilder, findings: &[Finding], places: &[usize])
     ensures { Adds text.old (flat_map (found_member findings.now) places.now) text.new }
 {
     for place in places {
-        tell_member_at(text, findings, *place);
+        if let Some(finding) = findings.get(*place) {
+            tell_with(text, finding, finding.own_help.as_slice());
+        }
     }
 }
 

@@ -8,7 +8,7 @@ ghost use Rattle.text_buffers.specs.Builders.{Adds};
 ghost use Rattle.race_explanations.specs.Scenes.{setting_of};
 ghost use Rattle.race_explanations.specs.Cases.{AreCases};
 ghost use Rattle.race_explanations.specs.SharedSyncs.{OneSyncOrders};
-ghost use Rattle.race_explanations.specs.Groups.{alone_at, alone_text, member_at, members_text, course_at, courses_of, nearer, first_among, is_ordered, has_round, leaves_open};
+ghost use Rattle.race_explanations.specs.Groups.{alone_text, members_text, courses_of, nearer, first_among, is_ordered, has_round, leaves_open};
 ghost use Rattle.race_explanations.specs.Groups.{pairs_words, beside_text, first_text, rounds_text, is_sure, is_sure_at, is_group_sure, sync_text, head_text, many_text, text_at_line, group_text, groups_text};
 
 use crate::advice::{push_function, push_rounds, push_sync};
@@ -33,23 +33,6 @@ pub(crate) fn pairs_words(scene: &Scene<'_, '_>) -> &'static str
     }
 }
 
-/// Tells of the race at a place as of one that is alone.
-fn push_alone_at(
-    alloc: Global,
-    text: &mut TextBuilder,
-    scene: &Scene<'_, '_>,
-    cases: &[Case<'_>],
-    is_sure: bool,
-    place: usize,
-)
-    ensures { Adds text.old (alone_at (setting_of scene.now) cases.now is_sure place) text.new }
-{
-    match cases.get(place) {
-        Some(case) => push_case(alloc, text, scene, case, is_sure),
-        None => {}
-    }
-}
-
 /// Tells of races as of such that are alone.
 fn push_alone(
     alloc: Global,
@@ -62,23 +45,9 @@ fn push_alone(
     ensures { Adds text.old (alone_text (setting_of scene.now) cases.now is_sure places.now) text.new }
 {
     for place in places {
-        push_alone_at(alloc, text, scene, cases, is_sure, *place);
-    }
-}
-
-/// Tells of the race at a place as of one of several that part at one spawn.
-fn push_member_at(
-    alloc: Global,
-    text: &mut TextBuilder,
-    scene: &Scene<'_, '_>,
-    cases: &[Case<'_>],
-    place: usize,
-)
-    ensures { Adds text.old (member_at (setting_of scene.now) cases.now place) text.new }
-{
-    match cases.get(place) {
-        Some(case) => push_member(alloc, text, scene, case),
-        None => {}
+        if let Some(case) = cases.get(*place) {
+            push_case(alloc, text, scene, case, is_sure);
+        }
     }
 }
 
@@ -93,25 +62,9 @@ fn push_members(
     ensures { Adds text.old (members_text (setting_of scene.now) cases.now places.now) text.new }
 {
     for place in places {
-        push_member_at(alloc, text, scene, cases, *place);
-    }
-}
-
-/// Adds the course of the race at a place.
-fn add_course(
-    scene: &Scene<'_, '_>,
-    cases: &[Case<'_>],
-    place: usize,
-    courses: &mut Vec<Course>,
-) -> Result<(), AllocError>
-    ensures { OnOk result (courses.new.items ≡ courses.old.items ++ course_at (setting_of scene.now) cases.now place) }
-{
-    match cases.get(place) {
-        Some(case) => {
-            courses.push(course_of(scene, &case.encounter))?;
-            Ok(())
+        if let Some(case) = cases.get(*place) {
+            push_member(alloc, text, scene, case);
         }
-        None => Ok(()),
     }
 }
 
@@ -126,7 +79,9 @@ fn courses_of(
 {
     let mut courses = Vec::new(alloc);
     for place in places {
-        add_course(scene, cases, *place, &mut courses)?;
+        if let Some(case) = cases.get(*place) {
+            courses.push(course_of(scene, &case.encounter))?;
+        }
     }
     Ok(courses)
 }

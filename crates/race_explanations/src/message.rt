@@ -1,24 +1,25 @@
 //! What is told of a pair of lines that raced.
 
-ghost use Rattle.std.specs.Prelude.{◌≡◌, ◌++◌, IfOk};
+ghost use Rattle.std.specs.Prelude.{◌≡◌, ◌++◌, [], Bool, is_some, unwrap_or, IfOk};
 ghost use Rattle.std.specs.Option.{option_map};
 ghost use Rattle.text_buffers.specs.Builders.{Adds};
 ghost use Rattle.race_explanations.specs.Scenes.{setting_of};
-ghost use Rattle.race_explanations.specs.Advice.{help_note, sync_help_of, move_help_of};
+ghost use Rattle.race_explanations.specs.Settings.{Setting};
+ghost use Rattle.race_explanations.specs.Advice.{help_note};
 ghost use Rattle.race_explanations.specs.Messages.{witness_text, earlier_text, where_text, help_of, own_help_of};
 ghost use Rattle.race_explanations.specs.Messages.{verdict_words, refused_text, case_text, member_text};
 ghost use Rattle.race_explanations.specs.Findings.{body_text};
 
 use crate::advice::{
-    line_on, move_help, push_between, push_move_note, push_opened, push_parted, push_put_note,
-    push_sync_note, put_words, sync_help,
+    begin_help, line_on, push_between, push_move_help, push_opened, push_parted, push_sync_help,
+    put_help,
 };
 use crate::case::Case;
 use crate::paths::{push_access, push_chain};
 use crate::scene::Scene;
 use crate::title::push_title;
 use crate::words::line_of;
-use race_pairs::{Encounter, OpenSpawn, Pair, Parting, Reason};
+use race_pairs::{Encounter, Pair, Reason};
 use std::alloc::{AllocError, Global};
 use text_buffers::TextBuilder;
 
@@ -108,7 +109,46 @@ pub(crate) fn push_own_help(
     }
 }
 
-/// Adds what orders the two.
+/// Whether it is known what orders the two.
+fn has_help(pair: &Pair, encounter: &Encounter) -> bool
+    ensures { (setting : Setting) (is_sure : Bool) → result ≡ is_some (help_of pair.now.lines.reason setting pair.now encounter.now is_sure) }
+{
+    match pair.lines.reason {
+        Reason::Race { .. } => encounter.parting.is_some(),
+        Reason::ViewRead => encounter.outstanding.is_some(),
+        Reason::Unset => true,
+    }
+}
+
+/// Adds what orders the two, in a sentence without an end, where it is known.
+fn push_help_words(
+    text: &mut TextBuilder,
+    scene: &Scene<'_, '_>,
+    pair: &Pair,
+    encounter: &Encounter,
+    is_sure: bool,
+)
+    ensures { Adds text.old (unwrap_or (help_of pair.now.lines.reason (setting_of scene.now) pair.now encounter.now is_sure) []) text.new }
+{
+    match pair.lines.reason {
+        Reason::Race { .. } => {
+            if let Some(parting) = encounter.parting {
+                let line = line_of(scene, parting.entry);
+                let onward = line_of(scene, encounter.onward.unwrap_or(0));
+                push_sync_help(text, scene, line, onward, is_sure);
+            }
+        }
+        Reason::ViewRead => {
+            if let Some(spawn) = encounter.outstanding {
+                let at = line_on(pair, encounter.refused.strand, spawn.parallel);
+                push_move_help(text, scene, at, line_of(scene, spawn.entry));
+            }
+        }
+        Reason::Unset => text.push_words(put_help()),
+    }
+}
+
+/// Adds a note on what orders the two.
 pub(crate) fn push_help(
     text: &mut TextBuilder,
     scene: &Scene<'_, '_>,
@@ -118,55 +158,10 @@ pub(crate) fn push_help(
 )
     ensures { Adds text.old (help_note (setting_of scene.now) (help_of pair.now.lines.reason (setting_of scene.now) pair.now encounter.now is_sure)) text.new }
 {
-    match pair.lines.reason {
-        Reason::Race { .. } => {
-            let onward = line_of(scene, encounter.onward.unwrap_or(0));
-            push_sync_note(text, scene, onward, is_sure, encounter.parting);
-        }
-        Reason::ViewRead => {
-            let refused = encounter.refused.strand;
-            push_move_note(text, scene, pair, refused, encounter.outstanding);
-        },
-        Reason::Unset => push_put_note(text, scene),
-    }
-}
-
-/// What orders two strands that part there, where they part.
-fn sync_help_of(
-    alloc: Global,
-    scene: &Scene<'_, '_>,
-    onward: u32,
-    is_sure: bool,
-    parting: Option<Parting>,
-) -> Result<Option<Vec<u8>>, AllocError>
-    ensures { IfOk result (λ help. option_map (λ words. words.items) help ≡ sync_help_of (setting_of scene.now) onward is_sure parting) }
-{
-    match parting {
-        Some(parting) => {
-            let line = line_of(scene, parting.entry);
-            Ok(Some(sync_help(alloc, scene, line, onward, is_sure)?))
-        }
-        None => Ok(None),
-    }
-}
-
-/// What makes a read the same in every run, where that spawn is outstanding.
-fn move_help_of(
-    alloc: Global,
-    scene: &Scene<'_, '_>,
-    pair: &Pair,
-    refused: u32,
-    spawn: Option<OpenSpawn>,
-) -> Result<Option<Vec<u8>>, AllocError>
-    ensures { IfOk result (λ help. option_map (λ words. words.items) help ≡ move_help_of (setting_of scene.now) pair.now refused spawn) }
-{
-    match spawn {
-        Some(spawn) => {
-            let at = line_on(pair, refused, spawn.parallel);
-            let line = line_of(scene, spawn.entry);
-            Ok(Some(move_help(alloc, scene, at, line)?))
-        }
-        None => Ok(None),
+    if has_help(pair, encounter) {
+        begin_help(text, scene);
+        push_help_words(text, scene, pair, encounter, is_sure);
+        text.push_words("\n");
     }
 }
 
@@ -181,17 +176,12 @@ pub fn help_of(
 ) -> Result<Option<Vec<u8>>, AllocError>
     ensures { IfOk result (λ help. option_map (λ words. words.items) help ≡ help_of pair.now.lines.reason (setting_of scene.now) pair.now encounter.now is_sure) }
 {
-    match pair.lines.reason {
-        Reason::Race { .. } => {
-            let onward = line_of(scene, encounter.onward.unwrap_or(0));
-            sync_help_of(alloc, scene, onward, is_sure, encounter.parting)
-        }
-        Reason::ViewRead => {
-            let refused = encounter.refused.strand;
-            move_help_of(alloc, scene, pair, refused, encounter.outstanding)
-        }
-        Reason::Unset => Ok(Some(put_words(alloc)?)),
+    if !has_help(pair, encounter) {
+        return Ok(None);
     }
+    let mut text = TextBuilder::new(alloc);
+    push_help_words(&mut text, scene, pair, encounter, is_sure);
+    Ok(Some(text.end()?))
 }
 
 /// Adds all that is told of a race.

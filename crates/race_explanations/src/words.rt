@@ -6,7 +6,7 @@ ghost use Rattle.trace_notes.specs.Places.{place_parts};
 ghost use Rattle.program_text.specs.Programs.{contents};
 ghost use Rattle.race_pairs.specs.Refusals.{line_in};
 ghost use Rattle.race_explanations.specs.Scenes.{setting_of};
-ghost use Rattle.race_explanations.specs.Names.{function_at, noted_function, is_one_name, are_in_one_function, are_in_one_call, side_word, way_word};
+ghost use Rattle.race_explanations.specs.Names.{function_at, noted_function, function_of, is_one_name, are_in_one_function, are_in_one_call, side_word, way_word};
 
 use crate::scene::{Origin, Scene};
 use access_table::word;
@@ -39,6 +39,16 @@ fn noted_function<'a>(place: Option<Place<'a>>) -> Option<&'a str>
     }
 }
 
+/// The function in which a line stands, where it is known.
+pub(crate) fn function_of<'b>(scene: &'b Scene<'_, '_>, line: u32) -> Option<&'b str>
+    ensures { option_map (λ name. name.now) result ≡ function_of (setting_of scene.now).origin line }
+{
+    match &scene.origin {
+        Origin::Program { program, .. } => Some(function_in(program, line)),
+        Origin::Trace { notes } => noted_function(notes.place_of(line)),
+    }
+}
+
 /// Whether the two are one name, or there is none of both.
 fn is_one_name(one: Option<&str>, other: Option<&str>) -> bool
     ensures { result ≡ is_one_name (option_map (λ name. name.now) one.entry) (option_map (λ name. name.now) other.entry) }
@@ -54,14 +64,7 @@ fn is_one_name(one: Option<&str>, other: Option<&str>) -> bool
 pub(crate) fn are_in_one_function(scene: &Scene<'_, '_>, line: u32, other: u32) -> bool
     ensures { result ≡ are_in_one_function (setting_of scene.now).origin line other }
 {
-    match &scene.origin {
-        Origin::Program { program, .. } => function_in(program, line)
-            == function_in(program, other),
-        Origin::Trace { notes } => is_one_name(
-            noted_function(notes.place_of(line)),
-            noted_function(notes.place_of(other)),
-        ),
-    }
+    is_one_name(function_of(scene, line), function_of(scene, other))
 }
 
 /// Whether two lines are known to stand in one call of a function. A recorder writes no calls, so of lines with notes this is not known.

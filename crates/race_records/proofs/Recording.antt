@@ -1,7 +1,10 @@
 -- What is told of the entries of a run or a trace.
-use Rattle.std.proofs.Common.{◌≡◌, ℕ, suc, false, ◌+◌, ◌<◌, List, [], ◌++◌, length, take, drop, map, get_or, sym, subst, ap, ◌∙◌, append_assoc, arith}
-use Rattle.std.proofs.lemmas.List.{drop_more}
+use Rattle.std.proofs.Common.{◌≡◌, ℕ, Bool, suc, false, ◌+◌, ◌<◌, ◌≤◌, List, [], ◌∷◌, ◌++◌, Option, length, take, drop, map, get_or, refl, sym, subst, ap, ◌∙◌, append_assoc, append-nil, arith}
+use Rattle.std.proofs.lemmas.List.{drop_more, map-append}
+use Rattle.std.proofs.lemmas.Option.{slice_get_past, slice_get_read}
 use Rattle.serde_json.specs.Data.{Data}
+use Rattle.serde_json.specs.View.{view}
+use Rattle.serde_json.specs.declared.value.Value.{Value}
 use Rattle.model_histories.specs.declared.answer.Entry.{Entry}
 use Rattle.race_pairs.specs.declared.race.Pair.{Pair}
 use Rattle.race_pairs.specs.declared.race.Race.{Race}
@@ -19,8 +22,24 @@ use Rattle.race_records.specs.Values.{IsTextOf}
 use Rattle.race_records.specs.declared.form.RecordForm.{RecordForm}
 use Rattle.race_records.specs.Forms.{in_form}
 use Rattle.race_records.specs.Warned.{Warned, warned_of}
-use Rattle.race_records.specs.Races.{group_told, groups_told, TellsRaces}
+use Rattle.race_records.specs.Races.{case_told, told_of, told_at, group_told, groups_told, TellsRaces}
 use Rattle.race_records.specs.Documents.{SummaryParts, EndParts, RunParts, document_told, summary_of, RecordsEntries, RecordsRun}
+
+-- the case at a place is told behind others
+pub case_here : (setting : Setting) (cases : List Case) (group : ℕ) (is_sure : Bool) (place : ℕ) (case : Case) (value : Value) (old new : List Value) →
+    place < length cases → case ≡ get_or cases place case → view value ≡ case_told setting group is_sure case → new ≡ old ++ value ∷ [] →
+    map view new ≡ map view old ++ told_at setting cases group is_sure place
+case_here setting cases group is_sure place case value old new below at told is =
+    ap (map view) is ∙ map-append view old (value ∷ []) ∙ ap (λ (one : Data). map view old ++ one ∷ []) told ∙
+    ap (λ (found : Option Case). map view old ++ told_of setting group is_sure found)
+    (sym (slice_get_read cases (length cases) place case refl below at))
+
+-- there is none
+pub case_past : (setting : Setting) (cases : List Case) (group : ℕ) (is_sure : Bool) (place : ℕ) (old : List Value) → length cases ≤ place →
+    map view old ≡ map view old ++ told_at setting cases group is_sure place
+case_past setting cases group is_sure place old beyond =
+    sym (append-nil (map view old)) ∙
+    ap (λ (found : Option Case). map view old ++ told_of setting group is_sure found) (sym (slice_get_past cases place beyond))
 
 -- Behind what is told of the groups before one, it and those behind it are told.
 pub group_more : (setting : Setting) (cases : List Case) (groups : List Group) (index : ℕ) (d : Group) (told new whole : List Data) → index < length groups →

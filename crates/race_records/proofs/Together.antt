@@ -1,8 +1,10 @@
 -- What is told of several traces together.
-use Rattle.std.proofs.Common.{◌≡◌, ℕ, suc, ◌+◌, ◌<◌, List, [], ◌∷◌, ◌++◌, length, min, take, drop, map, get_or, refl, sym, ap, ap₂, ◌∙◌, append_assoc, arith}
+use Rattle.std.proofs.Common.{◌≡◌, ℕ, Bool, suc, ◌+◌, ◌<◌, ◌≤◌, List, [], ◌∷◌, ◌++◌, Option, Some, None, length, min, take, drop, map, get_or, refl, sym, ap, ap₂, ◌∙◌, append_assoc, append-nil, arith}
+use Rattle.std.specs.Prelude.{slice_get, option_map}
 use Rattle.std.specs.List.{AllZip}
 use Rattle.std.specs.Global.{Vec}
-use Rattle.std.proofs.lemmas.List.{take-map, drop_more}
+use Rattle.std.proofs.lemmas.List.{take-map, drop_more, map-append}
+use Rattle.std.proofs.lemmas.Option.{slice_get_past, slice_get_read, slice_get-map}
 use Rattle.serde_json.specs.Data.{Data, null}
 use Rattle.serde_json.specs.View.{view}
 use Rattle.serde_json.specs.declared.value.Value.{Value}
@@ -14,8 +16,8 @@ use Rattle.race_records.specs.declared.race.Race.{Race}
 use Rattle.race_records.specs.RaceViews.{race_parts}
 use Rattle.race_records.specs.Warned.{Warned, none_warned}
 use Rattle.race_records.specs.Documents.{SummaryParts, document_told}
-use Rattle.race_records.specs.Races.{RaceParts}
-use Rattle.race_records.specs.Several.{Recorded, found_group, found_groups, races_told, summary_recorded, recorded_told}
+use Rattle.race_records.specs.Races.{RaceParts, race_told}
+use Rattle.race_records.specs.Several.{Recorded, names_of, found_told, found_at, found_group, found_groups, races_told, summary_recorded, recorded_told}
 
 abbrev pub items_of : Vec ℕ → List ℕ
 items_of group = group.items
@@ -40,6 +42,39 @@ pub races_first : (most limit : ℕ) (findings some : List Finding) (races front
 races_first most limit findings some races front told limit_is some_is front_is is =
     is ∙ ap₂ races_told (some_is ∙ first_of_all findings most) (first_races races front most front_is) ∙
     ap (λ (m : ℕ). races_told (take m findings) (take m (map race_parts races))) limit_is
+
+-- the finding at a place is told behind others
+pub found_here : (findings : List Finding) (races : List Race) (group : ℕ) (is_sure : Bool) (place : ℕ) (finding : Finding) (race : Race) (value : Value)
+    (old new : List Value) → place < length findings → finding ≡ get_or findings place finding → place < length races → race ≡ get_or races place race →
+    view value ≡ race_told (race_parts race) (names_of finding) finding.times group is_sure → new ≡ old ++ value ∷ [] →
+    map view new ≡ map view old ++ found_at findings (map race_parts races) group is_sure place
+found_here findings races group is_sure place finding race value old new below at there is told more =
+    let kept : slice_get (map race_parts races) place ≡ Some (race_parts race) =
+    slice_get-map race_parts races place ∙ ap (option_map race_parts) (slice_get_read races (length races) place race refl there is) in
+    ap (map view) more ∙ map-append view old (value ∷ []) ∙ ap (λ (one : Data). map view old ++ one ∷ []) told ∙
+    ap₂ (λ (found : Option Finding) (race : Option RaceParts). map view old ++ found_told group is_sure found race)
+    (sym (slice_get_read findings (length findings) place finding refl below at)) (sym kept)
+
+-- there is none
+pub found_past : (findings : List Finding) (races : List Race) (group : ℕ) (is_sure : Bool) (place : ℕ) (old : List Value) → length findings ≤ place →
+    map view old ≡ map view old ++ found_at findings (map race_parts races) group is_sure place
+found_past findings races group is_sure place old beyond =
+    sym (append-nil (map view old)) ∙
+    ap (λ (found : Option Finding). map view old ++ found_told group is_sure found (slice_get (map race_parts races) place))
+    (sym (slice_get_past findings place beyond))
+
+untold : (group : ℕ) (is_sure : Bool) (found : Option Finding) → [] ≡ found_told group is_sure found None
+untold group is_sure None = refl
+untold group is_sure (Some finding) = refl
+
+-- its race is not kept
+pub race_past : (findings : List Finding) (races : List Race) (group : ℕ) (is_sure : Bool) (place : ℕ) (old : List Value) → length races ≤ place →
+    map view old ≡ map view old ++ found_at findings (map race_parts races) group is_sure place
+race_past findings races group is_sure place old beyond =
+    let none : slice_get (map race_parts races) place ≡ None =
+    slice_get-map race_parts races place ∙ ap (option_map race_parts) (slice_get_past races place beyond) in
+    sym (append-nil (map view old)) ∙ ap (λ (more : List Data). map view old ++ more)
+    (untold group is_sure (slice_get findings place) ∙ ap (found_told group is_sure (slice_get findings place)) (sym none))
 
 -- Behind what is told of the groups before one, it and those behind it are told.
 pub found_more : (findings : List Finding) (races : List RaceParts) (groups : List (Vec ℕ)) (index : ℕ) (d : Vec ℕ) (told new whole : List Data) →

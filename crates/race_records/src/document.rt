@@ -13,7 +13,7 @@ ghost use Rattle.serde_json.specs.View.{view};
 ghost use Rattle.race_explanations.specs.Scenes.{setting_of};
 ghost use Rattle.race_explanations.specs.Explained.{program_file, trace_setting};
 ghost use Rattle.race_explanations.specs.Extents.{most_pairs};
-ghost use Rattle.race_records.specs.Races.{case_told, told_at, places_told, group_told, groups_told, TellsRaces};
+ghost use Rattle.race_records.specs.Races.{group_told, groups_told, TellsRaces};
 ghost use Rattle.race_records.specs.Documents.{document_told, summary_of, end_of_trace, run_parts, RecordsEntries, RecordsRun, outcome_word};
 ghost use Rattle.race_records.specs.WarnedViews.{warned_parts};
 ghost use Rattle.race_records.specs.SummaryViews.{summary_parts};
@@ -95,58 +95,7 @@ pub(crate) fn document_value(
         .finish()
 }
 
-/// Adds what is told of a race in the group with this number.
-fn add_value(
-    alloc: Global,
-    scene: &Scene<'_, '_>,
-    case: &Case<'_>,
-    group: usize,
-    is_sure: bool,
-    values: &mut Vec<Value>,
-) -> Result<(), AllocError>
-    ensures { OnOk result (map view values.new.items ≡ map view values.old.items ++ case_told (setting_of scene.now) group is_sure case.now ∷ []) }
-{
-    let value = case_value(alloc, scene, case, group, is_sure)?;
-    Ok(values.push(value)?)
-}
-
-/// Adds what is told of the race at a place, in the group with this number.
-fn add_case(
-    alloc: Global,
-    scene: &Scene<'_, '_>,
-    cases: &[Case<'_>],
-    group: usize,
-    is_sure: bool,
-    place: usize,
-    values: &mut Vec<Value>,
-) -> Result<(), AllocError>
-    ensures { OnOk result (map view values.new.items ≡ map view values.old.items ++ told_at (setting_of scene.now) cases.now group is_sure place) }
-{
-    match cases.get(place) {
-        Some(case) => add_value(alloc, scene, case, group, is_sure, values),
-        None => Ok(()),
-    }
-}
-
-/// Adds what is told of races of the group with this number, by whether a sync orders all of the group.
-fn add_places(
-    alloc: Global,
-    scene: &Scene<'_, '_>,
-    cases: &[Case<'_>],
-    group: usize,
-    is_sure: bool,
-    places: &[usize],
-    values: &mut Vec<Value>,
-) -> Result<(), AllocError>
-    ensures { OnOk result (map view values.new.items ≡ map view values.old.items ++ places_told (setting_of scene.now) cases.now group is_sure places.now) }
-{
-    for place in places {
-        add_case(alloc, scene, cases, group, is_sure, *place, values)?;
-    }
-    Ok(())
-}
-
-/// Adds what is told of the races of a group, which has this number.
+/// Adds what is told of the races of a group, which has this number, by whether a sync orders them all.
 fn add_group(
     alloc: Global,
     scene: &Scene<'_, '_>,
@@ -159,7 +108,12 @@ fn add_group(
 {
     let is_sure = is_group_sure(alloc, scene, cases, group)?;
     let places = group.places.as_slice();
-    add_places(alloc, scene, cases, number, is_sure, places, values)
+    for place in places {
+        if let Some(case) = cases.get(*place) {
+            values.push(case_value(alloc, scene, case, number, is_sure)?)?;
+        }
+    }
+    Ok(())
 }
 
 /// What is told of the races of groups, which are numbered from 1 on.

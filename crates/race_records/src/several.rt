@@ -1,6 +1,6 @@
 //! What is found in several traces, told together.
 
-ghost use Rattle.std.specs.Prelude.{◌≡◌, ◌==◌, ◌++◌, false, List, Some, IfOk, OnOk, length, map, slice_get, string_bytes};
+ghost use Rattle.std.specs.Prelude.{◌≡◌, ◌==◌, ◌++◌, false, List, IfOk, OnOk, length, map, string_bytes};
 ghost use Rattle.model_histories.specs.declared.answer.Entry.{Entry};
 ghost use Rattle.race_pairs.specs.Digests.{IsDigest, most_of};
 ghost use Rattle.race_pairs.specs.Encounters.{IsRaceOf, AreRacesOf};
@@ -15,7 +15,7 @@ ghost use Rattle.race_records.specs.Forms.{in_form};
 ghost use Rattle.race_records.specs.RaceViews.{race_parts};
 ghost use Rattle.race_records.specs.SummaryViews.{summary_parts};
 ghost use Rattle.race_records.specs.Several.{with_race, IsRace, AddsKept, nothing_recorded, untold_told, untold_in, AddsPairs, AddsTrace};
-ghost use Rattle.race_records.specs.Several.{found_told, found_at, found_places, found_group, found_groups, races_told, all_of, outcome_of, summary_recorded, recorded_told};
+ghost use Rattle.race_records.specs.Several.{found_group, found_groups, races_told, all_of, outcome_of, summary_recorded, recorded_told};
 ghost use Rattle.race_records.specs.Keeping.{AddsPair};
 ghost use Rattle.race_records.specs.SeveralViews.{kept_of, recorded_of};
 
@@ -164,78 +164,7 @@ fn push_untold(
     Ok(untold.push(value)?)
 }
 
-/// Adds what is told of a finding in the group with this number, by whether a sync orders all of the group.
-fn add_race(
-    alloc: Global,
-    finding: &Finding,
-    race: &Race,
-    group: usize,
-    is_sure: bool,
-    values: &mut Vec<Value>,
-) -> Result<(), AllocError>
-    ensures { OnOk result (map view values.new.items ≡ map view values.old.items ++ found_told group is_sure (Some finding.now) (Some (race_parts race.now))) }
-{
-    let names = &finding.names;
-    let value = race_value(alloc, race, names, finding.times, group, is_sure)?;
-    Ok(values.push(value)?)
-}
-
-/// The same of a finding whose race is at a place.
-fn add_race_at(
-    alloc: Global,
-    finding: &Finding,
-    races: &[Race],
-    group: usize,
-    is_sure: bool,
-    place: usize,
-    values: &mut Vec<Value>,
-) -> Result<(), AllocError>
-    ensures { OnOk result (map view values.new.items ≡ map view values.old.items ++
-        found_told group is_sure (Some finding.now) (slice_get (map race_parts races.now) place)) }
-{
-    match races.get(place) {
-        Some(race) => add_race(alloc, finding, race, group, is_sure, values),
-        None => Ok(()),
-    }
-}
-
-/// The same of the finding at a place.
-fn add_found(
-    alloc: Global,
-    findings: &[Finding],
-    races: &[Race],
-    group: usize,
-    is_sure: bool,
-    place: usize,
-    values: &mut Vec<Value>,
-) -> Result<(), AllocError>
-    ensures { OnOk result (map view values.new.items ≡ map view values.old.items ++ found_at findings.now (map race_parts races.now) group is_sure place) }
-{
-    match findings.get(place) {
-        Some(finding) => add_race_at(alloc, finding, races, group, is_sure, place, values),
-        None => Ok(()),
-    }
-}
-
-/// Adds what is told of findings of the group with this number, by whether a sync orders all of the group.
-fn add_places(
-    alloc: Global,
-    findings: &[Finding],
-    races: &[Race],
-    group: usize,
-    is_sure: bool,
-    places: &[usize],
-    values: &mut Vec<Value>,
-) -> Result<(), AllocError>
-    ensures { OnOk result (map view values.new.items ≡ map view values.old.items ++ found_places findings.now (map race_parts races.now) group is_sure places.now) }
-{
-    for place in places {
-        add_found(alloc, findings, races, group, is_sure, *place, values)?;
-    }
-    Ok(())
-}
-
-/// Adds what is told of the group with this number.
+/// Adds what is told of the findings of the group with this number, by whether a sync orders them all.
 fn add_group(
     alloc: Global,
     findings: &[Finding],
@@ -247,7 +176,15 @@ fn add_group(
     ensures { OnOk result (map view values.new.items ≡ map view values.old.items ++ found_group findings.now (map race_parts races.now) group places.now) }
 {
     let is_sure = are_sure(findings, places);
-    add_places(alloc, findings, races, group, is_sure, places, values)
+    for place in places {
+        if let Some(finding) = findings.get(*place)
+            && let Some(race) = races.get(*place)
+        {
+            let names = &finding.names;
+            values.push(race_value(alloc, race, names, finding.times, group, is_sure)?)?;
+        }
+    }
+    Ok(())
 }
 
 /// What is told of groups, which are numbered from 1 on.

@@ -26,6 +26,17 @@ items_found found list items all is named same =
     ap all_listed (sym (ap (option_map (λ (one : Bor (Vec Value)). items_view one.now.items)) is) ∙ named))
 
 -- one item more of those that are told one by one, behind others
+pub told_more : {X : Type 0} (told : X → Data) (items : List X) (index : ℕ) (d : X) (old one two : Option (List Data)) → index < length items →
+    Turns old (λ before. before ++ map told (take index items)) one → Turns one (λ before. before ++ told (get_or items index d) ∷ []) two →
+    Turns old (λ before. before ++ map told (take (index + 1) items)) two
+told_more told items index d old one two below so_far more =
+    let next = get_or items index d in
+    let front = map told (take index items) in
+    turns_so old two _ _ (λ before. append_assoc before front (told next ∷ []) ∙ ap (λ (all : List Data). before ++ all)
+    (sym (ap (map told) (take_more items index d below) ∙ map-append told (take index items) (next ∷ []))))
+    (two_turns old one two _ _ so_far more)
+
+-- the same of values
 pub viewed_more : (told : Data → Data) (values : List Value) (index : ℕ) (d : Value) (old one two : Option (List Data)) → index < length values →
     Turns old (λ before. before ++ map told (map view (take index values))) one →
     Turns one (λ items. items ++ told (view (get_or values index d)) ∷ []) two →

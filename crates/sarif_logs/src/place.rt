@@ -113,17 +113,16 @@ fn region_value(
 ) -> Result<Value, AllocError>
     ensures { IfOk result (λ value. view value ≡ region_told line column (option_map (λ code. code.now) code.entry)) }
 {
-    let region = Object::new(alloc).with("startLine", Value::from(line));
-    match (code, column) {
-        (Some(code), Some(column)) => region
-            .with("startColumn", Value::from(column))
+    let whole_line = Object::new(alloc).with("startLine", Value::from(line));
+    let region = match column {
+        Some(column) => whole_line.with("startColumn", Value::from(column)),
+        None => whole_line,
+    };
+    match code {
+        Some(code) => region
             .with_made("snippet", text_value(alloc, code))
             .finish(),
-        (Some(code), None) => region
-            .with_made("snippet", text_value(alloc, code))
-            .finish(),
-        (None, Some(column)) => region.with("startColumn", Value::from(column)).finish(),
-        (None, None) => region.finish(),
+        None => region.finish(),
     }
 }
 

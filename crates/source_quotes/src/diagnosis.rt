@@ -28,21 +28,27 @@ pub(crate) struct Diagnosis {
     pub(crate) part: Part,
 }
 
+/// What is wrong with a line whose first byte that no line may hold is this one.
+fn byte_mistake(scene: &Scene<'_, '_>, byte: u8) -> ByteMistake {
+    let is_first = scene.number == 1;
+    match byte {
+        b'\r' => ByteMistake::Return,
+        0..=0x1f | 0x7f => ByteMistake::Control,
+        0xef if is_first && scene.line.starts_with(b"\xef\xbb\xbf") => ByteMistake::OrderMark,
+        0xff if is_first && scene.line.starts_with(b"\xff\xfe") => ByteMistake::Wide,
+        0xfe if is_first && scene.line.starts_with(b"\xfe\xff") => ByteMistake::Wide,
+        _ => ByteMistake::Other,
+    }
+}
+
 /// What is wrong with a line that has a byte that no line may hold.
 fn bad_byte(scene: &Scene<'_, '_>) -> (ByteMistake, Part) {
-    let line = scene.line;
-    let at = line
-        .iter()
-        .position(|byte| !matches!(*byte, b'\t' | b' '..=b'~'))
-        .unwrap_or(0);
-    let mistake = match (scene.number, line, line.get(at)) {
-        (1, [0xef, 0xbb, 0xbf, ..], _) => ByteMistake::OrderMark,
-        (1, [0xff, 0xfe, ..] | [0xfe, 0xff, ..], _) => ByteMistake::Wide,
-        (_, _, Some(b'\r')) => ByteMistake::Return,
-        (_, _, Some(0..=0x1f | 0x7f)) => ByteMistake::Control,
-        _ => ByteMistake::Other,
-    };
-    (mistake, Part::Byte(at))
+    for (at, byte) in scene.line.iter().enumerate() {
+        if !matches!(*byte, b'\t' | b' '..=b'~') {
+            return (byte_mistake(scene, *byte), Part::Byte(at));
+        }
+    }
+    (ByteMistake::Other, Part::Byte(0))
 }
 
 /// What stands in place of a header.

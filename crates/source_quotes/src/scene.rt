@@ -19,12 +19,10 @@ pub(crate) fn first_words<'a>(line: &'a [u8]) -> (&'a str, &'a str, &'a str) {
 
 /// The words of a line, and none where it has a byte that no line may hold.
 pub(crate) fn words_of<'a>(alloc: Global, line: &'a [u8]) -> Result<Vec<&'a str>, AllocError> {
+    let mut words = Words::of_line(as_text(line).unwrap_or(""));
     let mut taken = Vec::new(alloc);
-    if let Some(text) = as_text(line) {
-        let mut words = Words::of_line(text);
-        while let Some(word) = words.take() {
-            taken.push(word)?;
-        }
+    while let Some(word) = words.take() {
+        taken.push(word)?;
     }
     Ok(taken)
 }

@@ -2,7 +2,7 @@ use Rattle.std.proofs.Common.{◌≡◌, ◌++◌, map, take}
 use Rattle.serde_json.specs.View.{view}
 use Rattle.race_records.specs.RaceViews.{race_parts}
 use Rattle.race_records.specs.Several.{found_places}
-use Rattle.race_records.proofs.several.add_places.Given as goal
+use Rattle.race_records.proofs.several.add_group.Given as goal
 
 -- those so far are told
 abbrev pub invariant-loop-place : goal.invariant-loop-place

@@ -1,5 +1,0 @@
-use Rattle.text_buffers.proofs.Builders.{two_adds}
-use Rattle.race_explanations.proofs.advice.push_does.Goals as goal
-
-pub returns : goal.returns
-returns c = two_adds _ _ _ _ _ c.push_name.ensures c.push_words.ensures
