@@ -3,7 +3,6 @@
 ghost use Rattle.text_buffers.specs.Builders.{Adds};
 ghost use Rattle.dag_drawing.specs.Blanks.{filled};
 
-use std::alloc::Global;
 use text_buffers::TextBuilder;
 
 /// Adds words, with the numbers one by one in their blanks, each of which is a `#`.

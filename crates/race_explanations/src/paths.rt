@@ -14,7 +14,6 @@ use crate::scene::{Origin, Scene};
 use crate::words::{function_in, line_of, side_word, way_word};
 use race_pairs::{Link, Side};
 use source_quotes::{push_gutter, push_left_sign, push_marked_line, push_note_sign, statement_of};
-use std::alloc::Global;
 use text_buffers::TextBuilder;
 use trace_notes::{Notes, Place};
 

@@ -12,7 +12,7 @@ use crate::scene::{Origin, Scene};
 use access_table::word;
 use program_text::Program;
 use race_pairs::{Side, Way, line_in};
-use std::alloc::{Allocator, Global};
+use std::alloc::Allocator;
 use trace_notes::Place;
 
 /// The name of the function of a program in which a line stands.
