@@ -153,7 +153,7 @@ head_notes head count trace notes plain are =
 -- ---- a text that is kept by its head and its trace
 
 pub kept_means : (source : KeptText) (kept : PlainText) → source ≡ Plain kept → IsKept source → KeepsTrace source (trace_contents kept.trace)
-kept_means {A} source kept is all =
+kept_means source kept is all =
     let plain : IsKept (Plain kept) = subst (λ (some : KeptText). IsKept some) is all in record {
       kept = all;
       means = subst (λ (some : KeptText). TextMeans (text_of some) (trace_contents kept.trace)) (sym is) plain.means;

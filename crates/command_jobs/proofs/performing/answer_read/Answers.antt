@@ -1,5 +1,4 @@
 use Rattle.std.proofs.Common.{◌∙◌, IfErr, subst}
-use Rattle.std.specs.Global.{Global}
 use Rattle.std.specs.String.{string_bytes}
 use Rattle.dag_drawing.specs.declared.form.Form.{Form}
 use Rattle.command_streams.specs.Watched.{held}
@@ -23,7 +22,7 @@ returns-in-Elide-clause-fault g c = rw c.in-Elide.is (λ sources reads.
 
 pub returns-in-Draw-clause-fault : goal.returns-in-Draw-clause-fault
 returns-in-Draw-clause-fault g c = rw c.in-Draw.is (λ sources reads.
-    stopped_of (λ before behind fault. HasDrawingCause Global (form_of c.in-Draw.language) (reading before behind) (g.W.Write.contents (held c.args.output.now)) (g.W.Write.contents (held c.draw_text.new.output)) fault)
+    stopped_of (λ before behind fault. HasDrawingCause (form_of c.in-Draw.language) (reading before behind) (g.W.Write.contents (held c.args.output.now)) (g.W.Write.contents (held c.draw_text.new.output)) fault)
     _ _ _ c.draw_text.result (reads ∙ named_source sources (string_bytes c.in-Draw.file))
-    (subst (λ (form : Form). IfErr c.draw_text.result (HasDrawingCause Global form (reading (g.R.Read.remaining (held c.args.reader.now)) (g.R.Read.remaining (held c.draw_text.new.input)))
+    (subst (λ (form : Form). IfErr c.draw_text.result (HasDrawingCause form (reading (g.R.Read.remaining (held c.args.reader.now)) (g.R.Read.remaining (held c.draw_text.new.input)))
     (g.W.Write.contents (held c.args.output.now)) (g.W.Write.contents (held c.draw_text.new.output)))) c.form_of.ensures c.draw_text.ensures.fault))
