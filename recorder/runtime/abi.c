@@ -1,34 +1,26 @@
-/* What rewritten code calls. abi.h says what each call means. */
+/* What the rewriter's marks become. abi.h says what each call means. */
 #include "abi.h"
 #include "recorder.h"
 #include "stack.h"
 
+const char __cilkcheck_version_1 = 1;
+site_row __cilkcheck_place;
 static bool outlined;
-char __cilkcheck_task;
 
-FLAT void __cilkcheck_child_begin(const void *shared, ...) { (void)shared; scope_spawn(stack_now.depth, PLACE); }
-FLAT void __cilkcheck_child_end(void) {
-  scope_child_end(stack_now.depth, PLACE);
-  stack_next_arguments(0);
+FLAT void __cilkcheck_child_begin(site_row site, ...) { scope_spawn(stack_now.depth, (uintptr_t)site); }
+FLAT void __cilkcheck_child_end(site_row site) { scope_child_end(stack_now.depth, (uintptr_t)site); }
+FLAT void __cilkcheck_sync(site_row site) { scope_sync_at(stack_now.depth, (uintptr_t)site); }
+void __cilkcheck_scope_begin(site_row site) { scope_enter(SCOPE_BLOCK, stack_now.depth, (uintptr_t)site); }
+void __cilkcheck_scope_left(site_row site) {
+  const struct scope *scope = scope_top();
+  if (scope->kind == SCOPE_FUNCTION && scope->depth == stack_now.depth) { scope_leave((uintptr_t)site); scope = scope_top(); }
+  if (scope->kind != SCOPE_BLOCK || scope->depth != stack_now.depth) refuse((uintptr_t)site, "a cilk_for or cilk_scope was not left at its end");
+  scope_leave((uintptr_t)site);
 }
-FLAT void __cilkcheck_sync(void) { scope_sync_at(stack_now.depth, PLACE); }
-void __cilkcheck_sync_left(void *nothing) { (void)nothing; scope_sync_at(stack_now.depth, PLACE); }
-void __cilkcheck_scope_begin(void) { scope_enter(SCOPE_BLOCK, stack_now.depth, PLACE); }
-void __cilkcheck_share(int nothing, ...) { (void)nothing; }
-void __cilkcheck_argument_bytes(size_t bytes) { stack_next_arguments(bytes); }
-void __cilkcheck_wrote(void *at, size_t bytes) { record_access((uintptr_t)at, bytes, ACCESS_WRITE, PLACE); }
-void __cilkcheck_read(const void *at, size_t bytes) { record_access((uintptr_t)at, bytes, ACCESS_READ, PLACE); }
-void __cilkcheck_end_life(const volatile void *at, size_t bytes) {
-  end_lives((uintptr_t)at, (uintptr_t)at + bytes);
-}
-void __cilkcheck_outlined(void) { outlined = true; }
+void __cilkcheck_outlined(site_row site) { (void)site; outlined = true; }
 bool outlined_next(void) {
   bool is = outlined;
   outlined = false;
   return is;
 }
-void __cilkcheck_hide(int on) { hide_accesses(on != 0); }
-
-/* The destructors of the classes of include/cilkcheck/calls.hpp that sync. */
-NAMED("_ZN17__cilkcheck_syncsD1Ev", "__cilkcheck_sync_left");
-NAMED("_ZN17__cilkcheck_syncsD2Ev", "__cilkcheck_sync_left");
+void __cilkcheck_hide(site_row site, int on) { (void)site; hide_accesses(on != 0); }

@@ -2,7 +2,6 @@
    static objects. See libc.h. Throwing and catching themselves touch nothing that two strands share: an exception is a block of its own. */
 #include "libc.h"
 #include <string.h>
-#include <unwind.h>
 
 struct string { char *data; size_t length; };
 enum { ERROR_BYTES = 16 };                       /* a virtual table and the text, which is counted by atomics and constant */
@@ -78,21 +77,6 @@ extern void _ZSt17rethrow_exceptionNSt15__exception_ptr13exception_ptrE(void **s
 WRAPPER(void, _ZSt17rethrow_exceptionNSt15__exception_ptr13exception_ptrE, void **self) {
   READ(self, sizeof *self);
   _ZSt17rethrow_exceptionNSt15__exception_ptr13exception_ptrE(self);
-}
-
-/* ---- exceptions that leave a function ---- */
-
-/* The unwinder asks it of each frame in turn, innermost first. Where it finds no handler in the frame, but something to clean up, the
-   destructors of the frame's locals are what runs next. */
-typedef struct _Unwind_Exception exception;
-typedef struct _Unwind_Context context;
-extern _Unwind_Reason_Code __gxx_personality_v0(int version, _Unwind_Action actions, _Unwind_Exception_Class kind, exception *thrown, context *frame) __attribute__((weak));
-extern _Unwind_Ptr _Unwind_GetRegionStart(context *frame) __attribute__((weak));
-WRAPPER(_Unwind_Reason_Code, __gxx_personality_v0, int version, _Unwind_Action actions, _Unwind_Exception_Class kind, exception *thrown, context *frame) {
-  _Unwind_Reason_Code answer = __gxx_personality_v0(version, actions, kind, thrown, frame);
-  if (answer == _URC_INSTALL_CONTEXT && !(actions & _UA_HANDLER_FRAME) && recording)
-    function_unwound((uintptr_t)_Unwind_GetRegionStart(frame));
-  return answer;
 }
 
 /* ---- dynamic_cast reads the object's virtual table ---- */

@@ -47,13 +47,15 @@ static void wrote_string(const struct string *s, uintptr_t place) {
   tell(s->data, s->length + 1, ACCESS_WRITE, place);
 }
 
-/* The library's function, and a wrapper of it: what is told before the call, and behind it. */
+/* The library's function, and a wrapper of it: what is told before the call, and behind it. (A stream's buffer may be the program's.) */
 #define LIBRARY(result, name, parameters, arguments, before, behind) \
   extern result name parameters __attribute__((weak));               \
   result TELLS(name) parameters;                                     \
   __attribute__((weak)) result TELLS(name) parameters {              \
     before;                                                          \
+    const struct cilkcheck_site *kept = __cilkcheck_place;           \
     result value = name arguments;                                   \
+    __cilkcheck_place = kept;                                        \
     behind;                                                          \
     return value;                                                    \
   }
@@ -62,7 +64,9 @@ static void wrote_string(const struct string *s, uintptr_t place) {
   void TELLS(name) parameters;                                    \
   __attribute__((weak)) void TELLS(name) parameters {             \
     before;                                                       \
+    const struct cilkcheck_site *kept = __cilkcheck_place;        \
     name arguments;                                               \
+    __cilkcheck_place = kept;                                     \
     behind;                                                       \
   }
 

@@ -67,7 +67,6 @@ static void release(const struct block *block) {
   __libc_free((void *)block->base);
 }
 static void freed(void *at, uintptr_t place) {
-  if (__builtin_expect(spawn_awaited, 0)) spawn_called(place);
   struct block *slot = recording ? known(at) : NULL;
   if (!slot) { __libc_free(at); return; }
   struct block block = *slot;
@@ -116,7 +115,6 @@ void cfree(void *at);
 void cfree(void *at) { freed(at, PLACE); }
 
 static void *moved(void *at, size_t bytes, uintptr_t place) {
-  if (__builtin_expect(spawn_awaited, 0)) spawn_called(place);
   if (!at) return made(__libc_malloc(bytes), bytes, place);
   if (!bytes) { freed(at, place); return NULL; }
   const struct block *old = known(at);

@@ -7,5 +7,4 @@
 #include "scopes.c"
 #include "stack.c"
 #include "accesses.c"
-#include "atomics.c"
 #include "abi.c"

@@ -27,12 +27,13 @@ WRAPPER(void *, lfind, const void *key, const void *elements, size_t *count, siz
   return lfind(key, elements, count, bytes, compare);
 }
 WRAPPER(void *, lsearch, const void *key, void *elements, size_t *count, size_t bytes, int compare(const void *, const void *)) {
+  uintptr_t place = PLACE;
   READ(count, sizeof *count);
   size_t before = *count;
   void *found = lsearch(key, elements, count, bytes, compare);
   if (*count == before) return found;
-  READ(key, bytes);
-  WRITE(found, bytes);
-  WRITE(count, sizeof *count);
+  tell(key, bytes, ACCESS_READ, place);
+  tell(found, bytes, ACCESS_WRITE, place);
+  tell(count, sizeof *count, ACCESS_WRITE, place);
   return found;
 }

@@ -1,4 +1,4 @@
-/* OpenMP's tasks and threads as spawns and syncs: what the compilers' calls (openmp_gnu.c, openmp_llvm.c) share.
+/* OpenMP's tasks and threads as spawns and syncs: what is behind clang's calls (openmp_llvm.c).
 
    - A parallel region is a scope whose children are its threads. They run one after another, each on a stack of its own and up to the next
      barrier; there all are synced, and spawned anew for what follows.
@@ -8,7 +8,7 @@
      child that ends has its own synced. That is the same where a barrier or a taskgroup joins both, and not where a taskwait joins the
      task alone, which is refused.
    - A function that returns while its tasks are outstanding gives up its locals, as a free does a block: a task that uses them races with it.
-   - Outside of parallel regions, and inside of a final task, tasks are calls, as by both libraries.
+   - Outside of parallel regions, and inside of a final task, tasks are calls, as by clang's library.
    Whatever is not spawn and sync is refused where it is called (openmp_calls.c). */
 #ifndef CILKCHECK_OPENMP_H
 #define CILKCHECK_OPENMP_H

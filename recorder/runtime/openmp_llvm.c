@@ -1,4 +1,4 @@
-/* What clang calls for OpenMP: __kmpc_*. See openmp.h. `where` names a place of the source, which the return address does as well;
+/* What clang calls for OpenMP: __kmpc_*. See openmp.h. `where` names a place of the source, which PLACE does as well;
    `thread` is what __kmpc_global_thread_num gave. */
 #include "openmp.h"
 #include <stdarg.h>
@@ -92,8 +92,9 @@ CALLED(void, __kmpc_omp_task_begin_if0, struct ident *where, int thread, struct 
 CALLED(void, __kmpc_omp_task_complete_if0, struct ident *where, int thread, struct task *task) {
   (void)where;
   (void)thread;
+  uintptr_t place = PLACE;
   finish_task(task);
-  task_end(HEAD(task)->kind, PLACE);
+  task_end(HEAD(task)->kind, place);
   free_task(task);
 }
 

@@ -36,7 +36,6 @@ void task_end(enum task_kind kind, uintptr_t place) {
     return;
   }
   scope_child_end(stack_depth(), place);
-  stack_next_arguments(0);
   if (kind == TASK_DEFERRED && leaks) scope_top()->marks |= MARK_LEAKS;
 }
 void task_run(enum task_kind kind, bool final, void (*run)(void *), void *data, uintptr_t place) {

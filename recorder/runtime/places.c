@@ -1,235 +1,169 @@
-/* The table of places: read from the program's own file. places.h states the invariants, abi.h the form. */
+/* The tables of the program. places.h states the invariants. */
 #define _GNU_SOURCE
 #include "places.h"
 #include "histories.h"
-#include <elf.h>
-#include <fcntl.h>
 #include <stdio.h>
 #include <stdlib.h>
 #include <string.h>
-#include <sys/mman.h>
-#include <sys/stat.h>
 #include <unistd.h>
 
+#define TABLE(type, name) \
+  extern const struct type name##_begin[] __asm__("__start_" #name) __attribute__((weak, visibility("hidden"))); \
+  extern const struct type name##_end[] __asm__("__stop_" #name) __attribute__((weak, visibility("hidden")))
+#define MOST_NOTES 20u                         /* of places that are not seen; of the others there is their number */
+
+TABLE(cilkcheck_site, cilkcheck_sites);
+TABLE(cilkcheck_object, cilkcheck_objects);
+TABLE(cilkcheck_note, cilkcheck_notes);
+
+typedef const struct cilkcheck_site *row;
+
 struct places places;
-extern const Elf64_Ehdr program_head __asm__("__executable_start");
-extern const char program_code_end[] __asm__("etext");
-
-static uintptr_t moved;                                           /* where the program was loaded, less where it was linked */
-static uint32_t site_count, first_new;
-static uint32_t *inside;                                          /* of places in headers of the system their own sites, which `sites` has not */
-static uintptr_t *new_places;                                     /* of the sites that are not in the table, from first_new on */
-static const char *table; static size_t table_bytes;
-static struct { uintptr_t offset; struct line line; } *calls, *functions, *objects;
-static size_t call_count, function_count, object_count;
-static struct line *site_lines;
-
-/* Maps the section `.cilkcheck` of the program's file. NULL where there is none. */
-static const char *map_table(size_t *bytes) {
-  const char *found = NULL;
-  struct stat status;
-  int file = open("/proc/self/exe", O_RDONLY | O_CLOEXEC);
-  if (file < 0) return NULL;
-  if (!fstat(file, &status) && (size_t)status.st_size > sizeof(Elf64_Ehdr)) {
-    size_t size = (size_t)status.st_size;
-    const char *image = mmap(NULL, size, PROT_READ, MAP_PRIVATE, file, 0);
-    if (image != MAP_FAILED) {
-      const Elf64_Ehdr *head = (const Elf64_Ehdr *)image;
-      if (!memcmp(head->e_ident, ELFMAG, SELFMAG) && head->e_shoff && head->e_shstrndx < head->e_shnum &&
-          head->e_shoff + head->e_shnum * sizeof(Elf64_Shdr) <= size) {
-        const Elf64_Shdr *sections = (const Elf64_Shdr *)(image + head->e_shoff);
-        const char *names = image + sections[head->e_shstrndx].sh_offset;
-        for (int i = 0; i < head->e_shnum; i++)
-          if (!strcmp(names + sections[i].sh_name, ".cilkcheck") && sections[i].sh_offset + sections[i].sh_size <= size) {
-            found = image + sections[i].sh_offset;
-            *bytes = sections[i].sh_size;
-          }
-      }
-      if (!found) munmap((void *)image, size);
-    }
-  }
-  close(file);
-  return found && *bytes > 12 && !memcmp(found, "cilkcheck 1\n", 12) ? found : NULL;
-}
-
-void places_each_line(const char *word, void (*take)(uintptr_t offset, struct line rest)) {
-  size_t length = strlen(word);
-  const char *end = table + table_bytes;
-  for (const char *at = table; at < end;) {
-    const char *stop = memchr(at, '\n', (size_t)(end - at));
-    if (!stop) break;                                             /* each line ends in a line feed */
-    if (!strncmp(at, word, length) && at[length] == '\t') {
-      char *behind;
-      uintptr_t offset = strtoul(at + length + 1, &behind, 16);
-      if (*behind == '\t') take(offset, (struct line){behind + 1, stop});
-    }
-    at = stop + 1;
-  }
-}
-/* The next field of a line. */
-static struct line field(struct line *line) {
-  const char *tab = line->text < line->end ? memchr(line->text, '\t', (size_t)(line->end - line->text)) : NULL;
-  struct line found = {line->text, tab ? tab : line->end};
-  line->text = tab ? tab + 1 : line->end;
-  return found;
-}
-static unsigned long number(struct line text, int base) { return text.text < text.end ? strtoul(text.text, NULL, base) : 0; }
-
-static void take_site(uintptr_t offset, struct line rest) {
-  unsigned long site = number(field(&rest), 10);
-  uintptr_t at = offset + moved - places.code_low;
-  if (!site || site >= MOST_SITES || at >= places.code_bytes) return;
-  places.sites[at] = (uint32_t)site;
-  if (site > site_count) site_count = (uint32_t)site;
-}
-
-static void take_inside(uintptr_t offset, struct line rest) {
-  (void)rest;
-  uintptr_t at = offset + moved - places.code_low;
-  if (at >= places.code_bytes) return;
-  if (!inside) inside = reserve(sizeof *inside * places.code_bytes);
-  inside[at] = places.sites[at];
-  places.sites[at] = 0;
-}
+static char folder[4096];                      /* where the program was started, with a slash at the end */
+static row *rows_of_sites;                     /* of each site, the row that was met first */
+static uint32_t site_count, *slots, mask = (1u << 10) - 1;      /* slots: a hash table of the sites */
 
 void places_begin(void) {
-  places.code_low = (uintptr_t)&program_head;
-  places.code_bytes = (uintptr_t)program_code_end - places.code_low;
-  moved = program_head.e_type == ET_DYN ? places.code_low : 0;
-  places.sites = reserve(sizeof *places.sites * places.code_bytes);
-  new_places = reserve(sizeof *new_places * MOST_SITES);
-  table = map_table(&table_bytes);
-  if (table) {
-    places_each_line("at", take_site);
-    places_each_line("inside", take_inside);
-    madvise((void *)((uintptr_t)table & ~(uintptr_t)4095), table_bytes, MADV_DONTNEED);
-  }
-  first_new = site_count + 1;
+  size_t bytes = (size_t)((const char *)cilkcheck_sites_end - (const char *)cilkcheck_sites_begin);
+  if (bytes % sizeof(struct cilkcheck_site)) refuse(0, "the program's table of places is not as this version writes it: compile it again");
+  places.rows = (uintptr_t)cilkcheck_sites_begin;
+  places.bytes = bytes;
+  places.sites = reserve(sizeof *places.sites * (bytes / sizeof(struct cilkcheck_site) + 1));
+  rows_of_sites = reserve(sizeof *rows_of_sites * MOST_SITES);
+  slots = reserve(sizeof *slots * ((size_t)mask + 1));
+  if (getcwd(folder, sizeof folder - 1)) strcat(folder, "/");
 }
 
+/* ---- sites ---- */
+
+static bool is_in_header(uintptr_t place) { return ((row)place)->flags & CILKCHECK_SYSTEM; }
 uintptr_t place_in_source(uintptr_t place) {
-  uintptr_t offset = place - places.code_low, caller;
-  if (!inside || offset >= places.code_bytes || !inside[offset]) return place;
-  for (uint32_t above = 0; (caller = stack_caller(above)) != 0; above++) {
-    offset = caller - places.code_low;
-    if (offset < places.code_bytes && places.sites[offset]) return caller;
+  if (!place || !is_in_header(place)) return place;
+  for (uint32_t above = 0, depth = stack_depth(); above < depth; above++) {
+    uintptr_t caller = stack_caller(above);
+    if (caller && !is_in_header(caller)) return caller;
   }
   return place;
 }
 
-uint32_t place_new_site(uintptr_t place) {
-  if (!place) return 0;
-  uintptr_t offset = place - places.code_low;
-  if (inside && offset < places.code_bytes && inside[offset]) {
-    uintptr_t caller = place_in_source(place);
-    return caller == place ? inside[offset] : places.sites[caller - places.code_low];
-  }
-  if (offset >= places.code_bytes)                                /* code of another library: few calls come from there */
-    for (uint32_t site = first_new; site <= site_count; site++) if (new_places[site - first_new] == place) return site;
-  if (site_count == MOST_SITES - 1) refuse(0, "more than %u places in the program", site_count);
-  new_places[++site_count - first_new] = place;
-  if (offset < places.code_bytes) places.sites[offset] = site_count;
-  return site_count;
+static uint32_t hash_of(row at) {
+  uint32_t hash = at->line * 0x9E3779B1u;
+  for (const char *c = place_text(&at->file); *c; c++) hash = (hash ^ (uint8_t)*c) * 0x01000193u;
+  for (const char *c = place_text(&at->function); *c; c++) hash = (hash ^ (uint8_t)*c) * 0x01000193u;
+  return hash ^ hash >> 15;
 }
-uintptr_t places_moved(void) { return moved; }
+static bool is_same(const int32_t *a, const int32_t *b) {
+  const char *x = place_text(a), *y = place_text(b);
+  return x == y || !strcmp(x, y);
+}
+static uint32_t *slot_of(row at) {
+  uint32_t slot = hash_of(at) & mask;
+  for (; slots[slot]; slot = (slot + 1) & mask) {
+    row other = rows_of_sites[slots[slot]];
+    if (other->line == at->line && is_same(&other->function, &at->function) && is_same(&other->file, &at->file)) break;
+  }
+  return &slots[slot];
+}
+static void more_slots(void) {
+  unreserve(slots, sizeof *slots * ((size_t)mask + 1));
+  mask = mask * 4 + 3;
+  slots = reserve(sizeof *slots * ((size_t)mask + 1));
+  for (uint32_t i = 1; i <= site_count; i++) *slot_of(rows_of_sites[i]) = i;
+}
+
+RARE uint32_t place_new_site(uintptr_t place) {
+  if (!place) return 0;
+  uintptr_t source = place_in_source(place);
+  if (source != place) return place_site(source);
+  uint32_t *slot = slot_of((row)place), site = *slot;
+  if (!site) {
+    if (site_count == MOST_SITES - 1) refuse(0, "more than %u places in the program", site_count);
+    site = *slot = ++site_count;
+    rows_of_sites[site] = (row)place;
+    if (site_count * 2 > mask) more_slots();
+  }
+  if (!is_in_header(place) && place - places.rows < places.bytes) places.sites[(place - places.rows) / sizeof(struct cilkcheck_site)] = site;
+  return site;
+}
 uint32_t place_sites(void) { return site_count; }
 
 /* ---- names ---- */
 
-static void take_call(uintptr_t offset, struct line rest) {
-  struct line again = rest;
-  unsigned long site = number(field(&again), 10);
-  calls[call_count].offset = offset;
-  calls[call_count++].line = again;
-  if (site && site < first_new && !site_lines[site].text) site_lines[site] = again;
-}
-static void take_function(uintptr_t offset, struct line rest) { functions[function_count].offset = offset; functions[function_count++].line = rest; }
-static void take_object(uintptr_t offset, struct line rest) { objects[object_count].offset = offset; objects[object_count++].line = rest; }
-static void take_unseen(uintptr_t offset, struct line rest) { (void)offset; note_unseen("not seen inside: %.*s", (int)(rest.end - rest.text), rest.text); }
-static void take_note(uintptr_t offset, struct line rest) { (void)offset; note_unseen("%.*s", (int)(rest.end - rest.text), rest.text); }
-
-void places_read(void) {
-  if (!table || calls) return;
-  size_t lines = 1;
-  for (size_t i = 0; i < table_bytes; i++) lines += table[i] == '\n';
-  calls = reserve(sizeof *calls * lines);
-  functions = reserve(sizeof *functions * lines);
-  objects = reserve(sizeof *objects * lines);
-  site_lines = reserve(sizeof *site_lines * (first_new + 1));
-  places_each_line("at", take_call);
-  places_each_line("in", take_function);
-  places_each_line("of", take_object);
-  places_each_line("no", take_unseen);
-  places_each_line("unseen", take_note);
-}
-
-static size_t add(char *text, size_t room, size_t used, struct line more) {
-  for (const char *c = more.text; c < more.end && used + 1 < room; c++) text[used++] = *c >= 0x20 && *c <= 0x7E ? *c : '?';
+static size_t add(char *text, size_t room, size_t used, const char *more) {
+  for (; *more && used + 1 < room; more++) text[used++] = *more >= 0x20 && *more <= 0x7E ? *more : '?';
   text[used] = 0;
   return used;
 }
-static struct line word(const char *text) { return (struct line){text, text + strlen(text)}; }
-
-static void unknown(uintptr_t place, char *text, size_t room) {
-  if (place - places.code_low < places.code_bytes) snprintf(text, room, "code offset 0x%lx", place - moved);
-  else snprintf(text, room, "code of a library");
+static size_t add_line(char *text, size_t room, size_t used, const int32_t *file, uint32_t line) {
+  char number[16];
+  const char *name = place_text(file);
+  size_t length = strlen(folder);
+  if (length > 1 && !strncmp(name, folder, length)) name += length;
+  snprintf(number, sizeof number, ":%u", line);
+  return add(text, room, add(text, room, used, name), number);
 }
 
 void site_name(uint32_t site, char *text, size_t room) {
   text[0] = 0;
   if (!site) return;
-  if (site >= first_new || !site_lines || !site_lines[site].text) {
-    if (site >= first_new) unknown(new_places[site - first_new], text, room);
-    return;
-  }
-  struct line rest = site_lines[site], file = field(&rest), line = field(&rest), function = field(&rest);
-  size_t used = add(text, room, 0, file);
-  used = add(text, room, add(text, room, used, word(":")), line);
-  used = add(text, room, add(text, room, used, word(", ")), function);
-  if (rest.text < rest.end) add(text, room, add(text, room, used, word(" | ")), rest);
+  row at = rows_of_sites[site];
+  const char *code = place_text(&at->code);
+  size_t used = add(text, room, add_line(text, room, 0, &at->file, at->line), ", ");
+  used = add(text, room, used, place_text(&at->function));
+  if (*code) add(text, room, add(text, room, used, " | "), code);
 }
-
 void place_name(uintptr_t place, char *text, size_t room) {
   text[0] = 0;
-  if (!place) return;
-  places_read();
-  uintptr_t offset = place - moved;
-  size_t low = 0, high = call_count;
-  while (low < high) { size_t middle = (low + high) / 2; if (calls[middle].offset < offset) low = middle + 1; else high = middle; }
-  if (low == call_count || calls[low].offset != offset) { unknown(place, text, room); return; }
-  struct line rest = calls[low].line, file = field(&rest), line = field(&rest);
-  add(text, room, add(text, room, add(text, room, 0, file), word(":")), line);
+  if (place) add_line(text, room, 0, &((row)place)->file, ((row)place)->line);
+}
+const char *place_variable(uintptr_t place) { return place_text(&((row)place)->name); }
+void frame_name(const struct cilkcheck_frame *at, char *text, size_t room) {
+  size_t used = add(text, room, add(text, room, 0, place_text(&at->function)), " (");
+  add(text, room, add_line(text, room, used, &at->file, at->line), ")");
 }
 
-void place_function(uintptr_t place, char *text, size_t room) {
-  places_read();
-  uintptr_t offset = place - moved;
-  size_t low = 0, high = function_count;
-  while (low < high) { size_t middle = (low + high) / 2; if (functions[middle].offset <= offset) low = middle + 1; else high = middle; }
-  if (low) {
-    struct line rest = functions[low - 1].line, bytes = field(&rest), name = field(&rest), file = field(&rest);
-    if (offset - functions[low - 1].offset <= number(bytes, 16)) {
-      size_t used = add(text, room, 0, name);
-      if (file.text == file.end) return;
-      used = add(text, room, add(text, room, used, word(" (")), file);
-      used = add(text, room, add(text, room, used, word(":")), field(&rest));
-      add(text, room, used, word(")"));
-      return;
-    }
-  }
-  unknown(place, text, room);
-}
+/* ---- objects ---- */
 
+typedef const struct cilkcheck_object *object;
+static object *objects;
+static size_t object_count;
+
+static uintptr_t address_of(object at) { return (uintptr_t)cilkcheck_object_address(at); }
+static int by_address(const void *a, const void *b) {
+  uintptr_t x = address_of(*(const object *)a), y = address_of(*(const object *)b);
+  return (x > y) - (x < y);
+}
+static void read_objects(void) {
+  size_t most = (size_t)(cilkcheck_objects_end - cilkcheck_objects_begin);
+  objects = reserve(sizeof *objects * (most + 1));
+  for (size_t i = 0; i < most; i++) objects[object_count++] = &cilkcheck_objects_begin[i];
+  bool kept = recording;
+  recording = false;                                               /* qsort takes memory of its own */
+  if (object_count) qsort(objects, object_count, sizeof *objects, by_address);
+  recording = kept;
+}
 bool place_object(uintptr_t address, char *text, size_t room, size_t *byte) {
-  places_read();
-  uintptr_t offset = address - moved;
+  if (!objects) read_objects();
   size_t low = 0, high = object_count;
-  while (low < high) { size_t middle = (low + high) / 2; if (objects[middle].offset <= offset) low = middle + 1; else high = middle; }
+  while (low < high) { size_t middle = (low + high) / 2; if (address_of(objects[middle]) <= address) low = middle + 1; else high = middle; }
   if (!low) return false;
-  struct line rest = objects[low - 1].line;
-  unsigned long bytes = number(field(&rest), 16);
-  *byte = offset - objects[low - 1].offset;
-  if (*byte >= bytes) return false;
-  add(text, room, 0, field(&rest));
+  object found = objects[low - 1];
+  *byte = address - address_of(found);
+  if (*byte >= found->bytes) return false;
+  add(text, room, 0, place_text(&found->name));
   return true;
+}
+
+/* ---- notes ---- */
+
+void places_note_unseen(void) {
+  uint32_t count = 0;
+  for (const struct cilkcheck_note *note = cilkcheck_notes_begin; note < cilkcheck_notes_end; note++) {
+    char where[400];
+    if (!note->file) { note_unseen("%s", place_text(&note->what)); continue; }
+    if (count++ >= MOST_NOTES) continue;
+    add_line(where, sizeof where, 0, &note->file, note->line);
+    note_unseen("not seen: %s: %s", where, place_text(&note->what));
+  }
+  if (count > MOST_NOTES) note_unseen("not seen: %u places more", count - MOST_NOTES);
 }

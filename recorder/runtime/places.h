@@ -1,25 +1,26 @@
-/* Addresses of code, their sites, and their names.
+/* The tables that the pass puts into the program (pass/rows.h): places, sites, and their names.
 
-   A site is what is told as one place: a line of the program. The table that the wrapper puts into the linked program (abi.h) gives the
-   sites of its calls; a place that is not in it becomes a site of its own when it is first met. Site 0 is no place.
+   A place is the address of a row of the table of sites: an access, a call, or a mark. A site is what is told as one place: a line of a
+   function. It gets its number when the first of its rows is met. Site 0 is no place.
 
    A place in a header of the system's stands for the call in the program's own source that led there, on the running stack.
 
-   Invariants: `sites` has an entry for each byte of the program's code, 0 where the place is not known yet or in such a header. Sites from
-   the table come first, then those that were met. */
+   Invariants: `sites` has an entry for each row of the table, 0 where the row was not met yet or stands in such a header. Two rows have one
+   site exactly where their files, lines and functions are the same. */
 #ifndef CILKCHECK_PLACES_H
 #define CILKCHECK_PLACES_H
+#include "../pass/rows.h"
 #include "recorder.h"
 
-struct places { uintptr_t code_low; size_t code_bytes; uint32_t *sites; };
+struct places { uintptr_t rows; size_t bytes; uint32_t *sites; };
 extern struct places places;
 
 void places_begin(void);
 uint32_t place_new_site(uintptr_t place);
 static inline uint32_t place_site(uintptr_t place) {
-  uintptr_t offset = place - places.code_low;
-  if (__builtin_expect(offset < places.code_bytes, 1)) {
-    uint32_t site = places.sites[offset];
+  uintptr_t offset = place - places.rows;
+  if (__builtin_expect(offset < places.bytes, 1)) {
+    uint32_t site = places.sites[offset / sizeof(struct cilkcheck_site)];
     if (__builtin_expect(site != 0, 1)) return site;
   }
   return place_new_site(place);
@@ -29,22 +30,21 @@ uintptr_t place_in_source(uintptr_t place);
 /* The sites there are: numbers from 1 to this. */
 uint32_t place_sites(void);
 
-/* Calls `take` for each line `WORD\tOFFSET\tREST` of the table, in its order. The offset is one of the linked file. */
-struct line { const char *text, *end; };
-void places_each_line(const char *word, void (*take)(uintptr_t offset, struct line rest));
+/* Names. Each text ends in a zero byte and holds 0x20 to 0x7E alone; files in the folder where the program was started are named from there. */
 
-/* Reads the whole table again, for names. To be called before the functions below; it is released with the program. */
-void places_read(void);
-/* `FILE:LINE, FUNCTION | CODE`, or what is known. The text ends in a zero byte and holds 0x20 to 0x7E alone. */
+/* `FILE:LINE, FUNCTION | CODE`. */
 void site_name(uint32_t site, char *text, size_t room);
-/* `FILE:LINE`, or `code offset 0x..`, or nothing for 0. */
+/* `FILE:LINE`, or nothing for 0. */
 void place_name(uintptr_t place, char *text, size_t room);
-/* `FUNCTION (FILE:LINE)`: the function whose code holds the place. */
-void place_function(uintptr_t place, char *text, size_t room);
+/* A text of a row, or an empty one. */
+static inline const char *place_text(const int32_t *reference) { return *reference ? cilkcheck_text(reference) : ""; }
+/* The name of what is accessed, or of the variable that begins; an empty one where it has none. */
+const char *place_variable(uintptr_t place);
+/* `FUNCTION (FILE:LINE)`. */
+void frame_name(const struct cilkcheck_frame *row, char *text, size_t room);
 /* The global or static object that holds the address: its name, and which byte of it. False where there is none. */
 bool place_object(uintptr_t address, char *text, size_t room, size_t *byte);
-
-/* Where the program was loaded, less where it was linked. */
-uintptr_t places_moved(void);
+/* Notes what the tables say that is not seen: `not seen: FILE:LINE: WHAT`, or a text that stands for itself. */
+void places_note_unseen(void);
 
 #endif

@@ -9,23 +9,23 @@
      states.c     what of a location's accesses a later one may race with
      pairs.c      the classes of pairs that are told, each as a cell
      log.c        the events of the run: spawns, ends, syncs, reducers, accesses of a raw recording
-     accesses.c, atomics.c, abi.c   what the compilers and the rewriter call
+     accesses.c, abi.c   what the compiler pass puts into the program
      control.c    a trace's requests
      traces.c     the pairs of each trace, and their files; text.c writes them
-     places.c, notes.c   what a code address and a location are called */
+     places.c, notes.c   what a place and a location are called */
 #ifndef CILKCHECK_RECORDER_H
 #define CILKCHECK_RECORDER_H
 #include <stdbool.h>
 #include <stddef.h>
 #include <stdint.h>
 
-/* The address behind the call of the hook that uses it: the place of an access, a spawn or a sync. */
-#define PLACE ((uintptr_t)__builtin_return_address(0))
+/* A place is the address of a row of the table of sites (pass/rows.h), or 0. PLACE is the program's innermost call (abi.h). What calls back into
+   the program keeps it in a variable before. */
+#define PLACE ((uintptr_t)__cilkcheck_place)
+extern const struct cilkcheck_site *__cilkcheck_place;
 /* What runs at each spawn or call: the functions that it calls are compiled into it, but for those that are RARE. */
 #define FLAT __attribute__((flatten))
 #define RARE __attribute__((noinline, cold))
-/* Another name of a function of the same file. */
-#define NAMED(symbol, function) __asm__(".globl " symbol "\n.set " symbol ", " function)
 
 /* ---- messages (start.c) ---- */
 
@@ -63,12 +63,14 @@ void hide_accesses(bool on);
 
 /* ---- stacks (stack.c) ---- */
 
-struct frame { uintptr_t top, function, caller; };      /* the stack above `top` is the callers'; return address of the entry hook; of the call */
-/* One stack of the program. Below `low` + `span` and at or above `low` lie its locals; nothing below `touched` was accessed. */
-struct stack { struct frame *frames; uint32_t depth; uintptr_t low, span, touched; };
+/* The stack above `top` is the callers'; the shared locals lie at `locals` as `row` says; `caller` is the place of the call. */
+struct frame { uintptr_t top, locals; const struct cilkcheck_frame *row; uintptr_t caller; };
+/* One stack of the program. Below `low` + `span` and at or above `low` lie its locals, those of the frames from `first` on; nothing below
+   `touched` was accessed. */
+struct stack { struct frame *frames; struct dynamic *dynamics; uint32_t depth, first, most, dynamic_count; uintptr_t low, span, touched; };
 struct stack stack_current(void);
 void stack_use(struct stack stack);
-/* A stack over [low, low + span) for a thread of OpenMP, with no frames of its own; `depth` counts on from the maker's. */
+/* A stack over [low, low + span) for a thread of OpenMP, with no frames of its own behind those of the maker. */
 struct stack stack_new(uintptr_t low, size_t span);
 void stack_free(struct stack stack);
 /* How many functions run, and where the one `above` calls below the innermost was called. */
@@ -86,7 +88,6 @@ struct log_place { uint32_t bytes; };                   /* log.h */
 struct level { uint32_t node, block, path, first; };    /* states.h */
 struct scope {
   uint32_t depth, ended; uint8_t kind, marks; bool open;
-  uint32_t argument_bytes; uintptr_t arguments;
   struct log_place began, block_began;
   struct level level;
 };
@@ -114,17 +115,6 @@ void scope_close_all(uintptr_t place);
 enum reducer_operation { REDUCER_MADE, REDUCER_UPDATE, REDUCER_PUT, REDUCER_GET, REDUCER_UNMADE };
 /* The running strand puts into, gets or updates reducer number `reducer` (numbers from 0, dense). MADE is told as a put. */
 void scope_reducer(enum reducer_operation operation, uint32_t reducer, uintptr_t place);
-
-/* ---- children of C++ (spawns.c) ---- */
-
-/* True while the innermost spawn of C++ waits for its function to be entered. Then __tsan_func_entry calls spawn_entered before the
-   new frame is there: `function` is its own place, `caller` the call's. */
-extern bool spawn_awaited;
-void spawn_entered(uintptr_t function, uintptr_t caller);
-/* The same for a library's function, called at `place`, before its first access is told. */
-void spawn_called(uintptr_t place);
-/* An exception leaves a function whose code begins at `start`. None of its locals' destructors has run yet. */
-void function_unwound(uintptr_t start);
 
 /* ---- the heap (heap.c) ---- */
 

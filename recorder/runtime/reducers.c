@@ -44,7 +44,7 @@ static void make(struct slot *slot, uintptr_t key, uintptr_t view, size_t bytes,
   slot->told = 1u << REDUCER_MADE | 1u << REDUCER_PUT;
 }
 
-void __cilkcheck_reducer(void *key, int operation, void *view, size_t bytes) {
+void __cilkcheck_reducer(site_row site, void *key, int operation, void *view, size_t bytes) {
   start_recording();
   if (!recording) return;
   if (2 * (slots_used + 1) > slot_mask + 1 || !slots) grow();
@@ -55,10 +55,10 @@ void __cilkcheck_reducer(void *key, int operation, void *view, size_t bytes) {
     return;
   }
   if (operation == REDUCER_MADE && known) end_view(slot);
-  if (operation == REDUCER_MADE || !known) make(slot, (uintptr_t)key, (uintptr_t)view, bytes, PLACE);
+  if (operation == REDUCER_MADE || !known) make(slot, (uintptr_t)key, (uintptr_t)view, bytes, (uintptr_t)site);
   if (operation == REDUCER_MADE) return;
   if (slot->strand != scope_strand()) { slot->strand = scope_strand(); slot->told = 0; }
   if (slot->told & 1u << operation) return;
   slot->told |= 1u << operation;
-  scope_reducer((enum reducer_operation)operation, slot->number, PLACE);
+  scope_reducer((enum reducer_operation)operation, slot->number, (uintptr_t)site);
 }

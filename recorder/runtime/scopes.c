@@ -49,7 +49,6 @@ static void push_scope(enum scope_kind kind, uint32_t depth, struct log_place be
   scope->marks = scope[-1].marks & SCOPE_INHERITED;
   scope->open = false;
   scope->ended = 0;
-  scope->arguments = 0;
   scope->began = began;
   histories_enter(site, kind == SCOPE_CHILD);
 }
@@ -137,7 +136,6 @@ void scope_child_end(uint32_t depth, uintptr_t place) {
   struct scope *child = scope_innermost;
   if (child->kind != SCOPE_CHILD || child->depth != depth) refuse(place, "a spawned statement was not left as it was entered");
   scope_sync(place);
-  if (child->arguments) end_lives(child->arguments, child->arguments + child->argument_bytes);
   histories_next_strand();
   bool idle = is_taken_back();
   uint32_t site = states_site(&child->level);

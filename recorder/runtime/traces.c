@@ -186,7 +186,7 @@ static bool write_all(void) {
 
 void traces_write(void) {
   char first[300], last[300] = "";
-  places_read();
+  places_note_unseen();
   text_begin();
   if (options.raw) {
     write_raw();
