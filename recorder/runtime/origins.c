@@ -58,10 +58,10 @@ uint32_t origin_number(const struct origin *origin) {
   return slots[at];
 }
 
-/* `NAME, byte N, a local of FUNCTION (FILE:LINE)`, as far as it is known. */
-static void local_name(const char *name, const struct cilkcheck_frame *row, uint32_t offset, char *text, size_t room) {
+/* `NAME, byte N, a local of FUNCTION (FILE:LINE)`, as far as it is known. The line is that of the local where it has a name. */
+static void local_name(const char *name, uint32_t line, const struct cilkcheck_frame *row, uint32_t offset, char *text, size_t room) {
   char function[400], byte[32] = "";
-  frame_name(row, function, sizeof function);
+  frame_name(row, *name ? line : 0, function, sizeof function);
   if (offset) snprintf(byte, sizeof byte, "byte %u, ", offset);
   snprintf(text, room, "%s%s%sa local of %s", name, *name ? ", " : "", *name ? byte : "", function);
 }
@@ -86,12 +86,13 @@ bool origin_name(uint32_t number, uint32_t offset, char *text, size_t room) {
   char name[400];
   switch (origin->kind) {
   case ORIGIN_LOCAL: {
-    const struct cilkcheck_local *locals = cilkcheck_target(&row->locals);
-    local_name(origin->more ? place_text(&locals[origin->more - 1].name) : "", row, offset, text, room);
+    const struct cilkcheck_local *locals = cilkcheck_target(&row->locals), *local = origin->more ? locals + origin->more - 1 : NULL;
+    if (local) local_name(place_text(&local->name), local->line, row, offset, text, room);
+    else local_name("", 0, row, offset, text, room);
     return false;
   }
   case ORIGIN_DYNAMIC:
-    local_name(place_variable(origin->more), row, offset, text, room);
+    local_name(place_variable(origin->more), place_line(origin->more), row, offset, text, room);
     return false;
   case ORIGIN_HEAP:
     place_name(origin->place, name, sizeof name);

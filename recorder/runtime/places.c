@@ -117,9 +117,10 @@ void place_name(uintptr_t place, char *text, size_t room) {
   if (place) add_line(text, room, 0, &((row)place)->file, ((row)place)->line);
 }
 const char *place_variable(uintptr_t place) { return place_text(&((row)place)->name); }
-void frame_name(const struct cilkcheck_frame *at, char *text, size_t room) {
+uint32_t place_line(uintptr_t place) { return ((row)place)->line; }
+void frame_name(const struct cilkcheck_frame *at, uint32_t line, char *text, size_t room) {
   size_t used = add(text, room, add(text, room, 0, place_text(&at->function)), " (");
-  add(text, room, add_line(text, room, used, &at->file, at->line), ")");
+  add(text, room, add_line(text, room, used, &at->file, line ? line : at->line), ")");
 }
 
 /* ---- objects ---- */

@@ -40,8 +40,9 @@ void place_name(uintptr_t place, char *text, size_t room);
 static inline const char *place_text(const int32_t *reference) { return *reference ? cilkcheck_text(reference) : ""; }
 /* The name of what is accessed, or of the variable that begins; an empty one where it has none. */
 const char *place_variable(uintptr_t place);
-/* `FUNCTION (FILE:LINE)`. */
-void frame_name(const struct cilkcheck_frame *row, char *text, size_t room);
+uint32_t place_line(uintptr_t place);
+/* `FUNCTION (FILE:LINE)`, with the line of the function, or another one of its file. */
+void frame_name(const struct cilkcheck_frame *row, uint32_t line, char *text, size_t room);
 /* The global or static object that holds the address: its name, and which byte of it. False where there is none. */
 bool place_object(uintptr_t address, char *text, size_t room, size_t *byte);
 /* Notes what the tables say that is not seen: `not seen: FILE:LINE: WHAT`, or a text that stands for itself. */
