@@ -1,55 +1,160 @@
-"""The command line of gcc and clang, as far as a wrapper has to understand it."""
+"""The command line of clang, as far as a wrapper has to understand it."""
 import os
 import re
-import shlex
 from dataclasses import dataclass, field
 
-# options whose value may be the next argument
-VALUES = {"-o", "-I", "-D", "-U", "-L", "-l", "-x", "-include", "-imacros", "-isystem", "-iquote", "-idirafter", "-isysroot", "-iprefix", "-iwithprefix",
-          "-iwithprefixbefore", "-MF", "-MT", "-MQ", "-MJ", "-Xlinker", "-Xpreprocessor", "-Xassembler", "-Xclang", "-mllvm", "-T", "-u", "-e", "-z", "-B",
-          "--param", "-aux-info", "-dumpbase", "-dumpbase-ext", "-dumpdir", "-target", "--sysroot", "-framework", "-arch", "-wrapper", "-specs"}
-PREPROCESSOR = {"-I", "-D", "-U", "-include", "-imacros", "-isystem", "-iquote", "-idirafter", "-isysroot", "-iprefix", "-iwithprefix", "-iwithprefixbefore",
-                "-MF", "-MT", "-MQ", "-MJ", "-Xpreprocessor"}
-LINKER = {"-L", "-l", "-Xlinker", "-T", "-u", "-e", "-z"}
-LANGUAGES = {".c": "c", ".i": "cpp-output", ".cc": "c++", ".cp": "c++", ".cxx": "c++", ".cpp": "c++", ".CPP": "c++", ".c++": "c++", ".C": "c++", ".ii": "c++-cpp-output"}
-COMPILED = {"c": "c", "c++": "c++", "cpp-output": "c", "c++-cpp-output": "c++"}
-# Not for recorded code: how it is optimized is ours to say, other tools' instrumentation and link-time optimization do not go with it, and the
-# compilers of Cilk have flags that stock compilers do not take.
-DROPPED = re.compile(r"-O.*|-f(no-)?sanitize.*|-flto.*|-fno-lto|-ffat-lto-objects|-fcilkplus|-fopencilk|-fcilktool.*|-fdetach|-pg|-p|-fprofile.*|-fcoverage.*|--coverage|-ftest-coverage"
-                     r"|-fopenmp(=.*)?|-fopenmp-simd|-lcilkrts|-lopencilk.*|-lomp|-lgomp|-liomp5|-D_FORTIFY_SOURCE.*|-Wp,-D_FORTIFY_SOURCE.*|-s|-save-temps.*|-pipe|-fwhole-program")
-INFORMATION = re.compile(r"--version|-dumpversion|-dumpfullversion|-dumpmachine|-dumpspecs|-print-.*|--print-.*|--help.*|--target-help|-\#\#\#|-fsyntax-only|-E|-M|-MM")
+# Options whose value is the next argument; of those in JOINED it may also follow at once, as in -Idir.
+JOINED = (
+    "-I", "-D", "-U", "-L", "-l", "-o", "-x", "-T", "-F", "-u", "-z", "-e", "-B", "-A", "-G", "-V", "-MF", "-MT", "-MQ", "-MJ", "-isystem",
+    "-isystem-after", "-iquote", "-idirafter", "-include", "-imacros", "-iprefix", "-iwithprefix", "-iwithprefixbefore", "-isysroot",
+    "-iframework", "-rpath", "-mthread-model",
+)
+SEPARATE = {
+    *JOINED, "-include-pch", "-Xlinker", "-Xpreprocessor", "-Xassembler", "-Xclang", "-Xanalyzer", "-Xopenmp-target", "-mllvm", "--param",
+    "-aux-info", "-dumpdir", "-target", "--sysroot", "-framework", "-arch", "-working-directory", "--config", "-gcc-toolchain", "-ivfsoverlay",
+    "--serialize-diagnostics", "-serialize-diagnostics", "-main-file-name", "-stack-usage-file",
+}
+LONG = {
+    "--compile": "-c", "--assemble": "-S", "--preprocess": "-E", "--dependencies": "-M", "--user-dependencies": "-MM", "--output": "-o",
+    "--write-dependencies": "-MD", "--write-user-dependencies": "-MMD", "--language": "-x", "--define-macro": "-D", "--undefine-macro": "-U",
+    "--include-directory": "-I", "--include": "-include", "--library-directory": "-L",
+}
+PREPROCESSOR = {
+    "-I", "-D", "-U", "-F", "-A", "-include", "-imacros", "-include-pch", "-isystem", "-isystem-after", "-iquote", "-idirafter", "-iprefix",
+    "-iwithprefix", "-iwithprefixbefore", "-iframework", "-Xpreprocessor",
+}
+DEPENDENCIES = {"-MD", "-MMD", "-MP", "-MG", "-MV", "-MF", "-MT", "-MQ", "-MJ"}
+# in their place among the objects and archives
+AMONG_INPUTS = {"-l", "-Xlinker", "-T", "-u", "-z", "-e", "-framework", "-rpath"}
+LINKER = re.compile(
+    r"-L|-static|-no-pie|-nopie|-pie|-static-pie|-rdynamic|-nostdlib(\+\+)?|-nostartfiles|-nodefaultlibs|-nolibc|-r|-static-lib.*|-shared-lib.*|-s"
+    r"|-fuse-ld=.*|--ld-path=.*|-stdlib\+\+-isystem"
+)
+LANGUAGES = {
+    ".c": "c", ".i": "cpp-output", ".ii": "c++-cpp-output", ".h": "c-header", ".s": "assembler", ".S": "assembler-with-cpp", ".asm": "assembler-with-cpp",
+    ".ll": "ir", ".bc": "ir", ".m": "objective-c", ".mm": "objective-c++", ".M": "objective-c++",
+    **dict.fromkeys((".C", ".cc", ".CC", ".cp", ".cpp", ".CPP", ".cxx", ".CXX", ".c++", ".C++"), "c++"),
+    **dict.fromkeys((".H", ".hh", ".hp", ".hpp", ".HPP", ".hxx", ".h++"), "c++-header"),
+}
+AS_CXX = {"c": "c++", "cpp-output": "c++-cpp-output", "c-header": "c++-header"}
+RECORDED = {"c", "c++", "cpp-output", "c++-cpp-output"}
+
+# what the compilers of Cilk take and clang does not
+CILK = re.compile(
+    r"-f(no-)?(opencilk.*|cilkplus|cilk|detach|stripmine|csi|tapir|pedigrees)|-f(tapir|cilktool|csi)[-=].*|--opencilk-.*|--cilk.*|-(shared|static)-lib(cilktool|opencilk)"
+    r"|-lcilkrts.*|-lopencilk.*|-lcilksan.*|-lcilkscale.*"
+)
+# Instrumentation by other tools and optimization at link time do not go with a recording, the runtime is the one of OpenMP, and another manager of
+# passes would leave ours out.
+DROPPED = re.compile(
+    r"-f(no-)?sanitize.*|-f(no-)?lto.*|-f(no-)?fat-lto-objects|-f(no-)?(whole-program-vtables|split-lto-unit|virtual-function-elimination)|-pg?"
+    r"|-f(no-)?profile.*|-f(no-)?coverage.*|--coverage|-ftest-coverage|-f(no-)?(legacy|experimental-new)-pass-manager|-lomp|-lgomp|-liomp5|-save-temps.*"
+    r"|-f(no-)?openmp(-simd|=.*)?"
+)
+INFORMATION = re.compile(r"-dumpversion|-dumpfullversion|-dumpmachine|-dumpspecs|--?print-.*|--target-help|--autocomplete=.*|-cc1.*")
+MODES = {"-E": "preprocess", "-M": "preprocess", "-MM": "preprocess", "-c": "-c", "-S": "-S", "-fsyntax-only": "syntax", "--analyze": "syntax",
+         "-emit-ast": "syntax", "--precompile": "syntax", "-verify-pch": "syntax", "-###": "clang"}
+# where several are given, the first in this list counts
+STRENGTH = ("clang", "preprocess", "syntax", "-S", "-c", "link")
 
 
-@dataclass
+class Fault(Exception):
+    """A command line that clang would not take either."""
+
+
+@dataclass(frozen=True)
 class Input:
-    """A file or a library in the order of the command line; `language` of what is compiled, else None."""
+    """A file in the order of the command line; `language` of what is compiled, else None; `given`: it was told by -x."""
     name: str
     language: str = None
+    given: bool = False
+
+    @property
+    def is_recorded(self):
+        return self.language in RECORDED
+
+    @property
+    def is_header(self):
+        return bool(self.language) and self.language.endswith("-header")
+
+    @property
+    def is_cxx(self):
+        return bool(self.language) and self.language.startswith("c++")
+
+    @property
+    def path(self):
+        """As an argument that is no option."""
+        return f"./{self.name}" if self.name.startswith("-") and self.name != "-" else self.name
 
 
 @dataclass
 class Commands:
     """What the command line asks for."""
-    mode: str = "link"                                      # link, -c, -S, or "pass" for what the compiler does alone
+    mode: str = "link"
     output: str = None
-    inputs: list = field(default_factory=list)              # Input, and options of the linker as strings
-    preprocess: list = field(default_factory=list)          # options of each stage, in order
-    compile: list = field(default_factory=list)
-    link: list = field(default_factory=list)
-    dependencies: dict = field(default_factory=dict)        # -MD and -MMD, -MF, -MP; -MT and -MQ with their values
+    inputs: list = field(default_factory=list)              # Input, and lists of the linker's arguments
+    options: list = field(default_factory=list)             # (stage, arguments), in order
     openmp: bool = False
-    keep_optimization: str = None
-    unseen: str = None
+    debug: bool = False
+    shared: bool = False
     refused: str = None
+    unused: list = field(default_factory=list)              # what clang calls unused where it does not link
+
+    def files(self):
+        return [it for it in self.inputs if isinstance(it, Input)]
+
+    def arguments(self, *stages):
+        return [word for stage, words in self.options if stage in stages for word in words]
+
+    def for_preprocessing(self):
+        return self.arguments("all", "preprocess")
+
+    def for_syntax(self):
+        """All of the user's that a compile takes, so that clang says what it would say."""
+        linking = [] if self.mode == "link" else ["link"]
+        words = self.arguments("all", "preprocess", "warning", "dependencies", "debug", *linking)
+        # (-MD names its file and its target after the output)
+        words += ["-o", self.output] if self.output else []
+        unused, self.unused = self.unused, []
+        return [*words, *unused] if linking else ["-Wno-unused-command-line-argument", *words]
+
+    def for_compiling(self):
+        """For text that is already preprocessed, and whose warnings were told."""
+        words, out = self.arguments("all"), []
+        words += [it for it in self.arguments("warning") if it.startswith("-Wno-")]
+        at = 0
+        while at < len(words):
+            if words[at] == "-Xclang" and words[at + 1:at + 2] and words[at + 1] in ("-include-pch", "-include"):
+                at += 4
+            elif words[at] == "-Xclang" and words[at + 1:at + 2] in (["-emit-pch"], ["-disable-llvm-passes"]):
+                at += 2
+            elif re.match(r"-f(debug-prefix-map|debug-compilation-dir|file-prefix-map|diagnostics-).*|-fmodules.*", words[at]):
+                at += 1
+            else:
+                out.append(words[at])
+                at += 1
+        return out
+
+    def for_linking(self):
+        return self.arguments("all", "link", "debug")
 
 
-def expand(arguments):
+def tokens(text):
+    """The arguments in a response file, by the rules of GNU: a backslash before any character stands for it, quotes join."""
+    found = re.findall(r"""((?:\\.|"(?:\\.|[^"\\])*"|'(?:\\.|[^'\\])*'|[^\s"'\\]|["'\\])+)""", text, re.S)
+    return [re.sub(r"""\\(.)|["']""", lambda it: it[1] or "", word, flags=re.S) for word in found]
+
+
+def expand(arguments, within=()):
     """With the contents of @FILE in its place."""
     out = []
     for argument in arguments:
-        if argument.startswith("@") and os.path.isfile(argument[1:]):
-            with open(argument[1:], encoding="utf-8", errors="surrogateescape") as file:
-                out += expand(shlex.split(file.read()))
+        path = argument[1:]
+        if argument.startswith("@") and os.path.isfile(path):
+            if any(os.path.samefile(path, it) for it in within):
+                raise Fault(f"{argument}: the file names itself")
+            with open(path, encoding="utf-8", errors="surrogateescape") as file:
+                out += expand(tokens(file.read()), (*within, path))
         else:
             out.append(argument)
     return out
@@ -57,69 +162,99 @@ def expand(arguments):
 
 def split_value(argument):
     """An option and the value that is joined to it, as in -Idir."""
-    for option in ("-I", "-D", "-U", "-L", "-l", "-o", "-x", "-T", "-MF", "-MT", "-MQ", "-isystem", "-iquote", "-idirafter", "-include", "-imacros"):
-        if argument.startswith(option) and len(argument) > len(option) and not argument.startswith(("-ob", "-xc-")):
+    if argument.startswith("--"):
+        name, equals, value = argument.partition("=")
+        return (LONG.get(name, name), value) if equals and name in LONG else (LONG.get(argument, argument), None)
+    if argument in SEPARATE or argument in MODES or argument in DEPENDENCIES:
+        return argument, None
+    for option in sorted(JOINED, key=len, reverse=True):
+        # (-static and -std are no -s, -export-dynamic is no -e, and so on)
+        if argument.startswith(option) and (len(option) > 2 or option in ("-I", "-D", "-U", "-L", "-l", "-o", "-x", "-T", "-F", "-B", "-u", "-z")):
+            if option == "-o" and argument.startswith("-objcmt") or argument in ("-undef", "-undefined"):
+                break
             return option, argument[len(option):]
     return argument, None
 
 
-def parse(arguments):
-    commands, language, at, optimization, keep = Commands(), None, 0, None, False
-    while at < len(arguments):
-        argument = arguments[at]
-        at += 1
-        if argument == "-" or not argument.startswith("-"):
-            suffix = os.path.splitext(argument)[1]
-            commands.inputs.append(Input(argument, COMPILED.get(language or LANGUAGES.get(suffix, "")) and (language or LANGUAGES[suffix])))
-            continue
-        if argument.startswith("--cilkcheck-"):
-            if argument == "--cilkcheck-keep-O":
-                keep = True
-            elif argument in ("--cilkcheck-unseen=note", "--cilkcheck-unseen=refuse"):
-                commands.unseen = argument.partition("=")[2]
-            else:
-                commands.refused = f"unknown option {argument}"
-            continue
-        option, value = split_value(argument)
-        separate = value is None and option in VALUES
-        if separate:
-            if at == len(arguments):
-                commands.mode = "pass"                      # the compiler says what is missing
-                break
-            value = arguments[at]
-            at += 1
-        whole = [option, value] if separate else [argument]
+class Reader:
+    """Reads the arguments one by one."""
+
+    def __init__(self, cxx):
+        self.cxx, self.commands, self.language = cxx, Commands(), None
+
+    def file(self, name):
+        language = self.language or LANGUAGES.get(os.path.splitext(name)[1])
+        if self.cxx and not self.language:
+            language = AS_CXX.get(language, language)
+        self.commands.inputs.append(Input(name, language, bool(self.language)))
+
+    def stronger(self, mode):
+        self.commands.mode = min(self.commands.mode, mode, key=STRENGTH.index)
+
+    def option(self, argument, option, value, words):
+        commands = self.commands
         if option == "-o":
             commands.output = value
         elif option == "-x":
-            language = None if value == "none" else value
-        elif option in ("-MD", "-MMD", "-MP", "-MG"):
-            commands.dependencies[option] = True
-        elif option == "-MF":
-            commands.dependencies["-MF"] = value
-        elif option in ("-MT", "-MQ"):
-            commands.dependencies.setdefault("targets", []).extend([option, value])
-        elif argument in ("-c", "-S"):
-            commands.mode = argument if commands.mode != "pass" else "pass"
+            self.language = None if value == "none" else value
+        elif option in MODES:
+            self.stronger(MODES[option])
+            if option not in ("-c", "-S"):
+                commands.options.append(("mode", words))
+        elif option in DEPENDENCIES or re.match(r"-Wp,-M", argument):
+            commands.options.append(("dependencies", words))
         elif INFORMATION.fullmatch(argument):
-            commands.mode = "pass"
-        elif argument == "-shared" or argument == "--shared":
-            commands.refused = "a shared library is not recorded: link its objects into the program"
+            self.stronger("clang")
+            commands.options.append(("mode", words))
+        elif argument in ("-shared", "--shared"):
+            commands.shared = True
+            commands.options.append(("link", words))
+        elif argument in ("-m32", "-mx32", "-m16"):
+            commands.refused = f"{argument}: a program is recorded on the machine that runs it, with 64 bits"
         elif re.fullmatch(r"-fopenmp(=.*)?", argument):
             commands.openmp = True
-        elif re.fullmatch(r"-O.*", argument):
-            optimization = argument
-        elif DROPPED.fullmatch(argument):
-            continue
-        elif option in PREPROCESSOR or argument.startswith(("-Wp,", "-nostdinc", "-undef", "-trigraphs")):
-            commands.preprocess += whole
-        elif option == "-l" or argument.startswith(("-Wl,", "-Xlinker")) or option in ("-Xlinker", "-T", "-u", "-z", "-e"):
-            commands.inputs.append(" ".join(whole) if not separate else whole)
-        elif option == "-L" or argument in ("-static", "-no-pie", "-pie", "-rdynamic", "-nostdlib", "-nostartfiles", "-nodefaultlibs", "-r", "-static-libgcc", "-static-libstdc++", "-static-pie"):
-            commands.link += whole
+        elif argument == "-fno-openmp":
+            commands.openmp = False
+        elif CILK.fullmatch(argument) or DROPPED.fullmatch(argument):
+            pass
+        elif option in AMONG_INPUTS or argument.startswith("-Wl,"):
+            commands.inputs.append(words)
+        elif option in PREPROCESSOR or re.match(r"-Wp,|-nostdinc|-undef$|-trigraphs$", argument):
+            commands.options.append(("preprocess", words))
+        elif option == "-L" or LINKER.fullmatch(argument):
+            commands.options.append(("link", words))
+        elif re.match(r"-W(?![al],)|-pedantic|-w$", argument):
+            commands.options.append(("warning", words))
+        elif re.match(r"-g(?!cc-)", argument):
+            commands.debug = not re.fullmatch(r"-g0|-ggdb0", argument)
+            commands.options.append(("debug", words))
         else:
-            commands.preprocess += whole
-            commands.compile += whole
-            commands.link += whole
-    commands.keep_optimization = optimization if keep else None
-    return commands
+            commands.options.append(("all", words))
+
+    def read(self, arguments):
+        at, only_files = 0, False
+        while at < len(arguments):
+            argument = arguments[at]
+            at += 1
+            if only_files or argument == "-" or not argument.startswith("-"):
+                self.file(argument)
+                continue
+            if argument == "--":
+                only_files = True
+                continue
+            if argument.startswith("--cilkcheck-"):
+                raise Fault(f"unknown option {argument}")
+            option, value = split_value(argument)
+            words = [argument]
+            if value is None and (option in SEPARATE or argument in LONG and option in JOINED):
+                if at == len(arguments):
+                    raise Fault(f"argument to '{argument}' is missing (expected 1 value)")
+                value = arguments[at]
+                words = [option, value]
+                at += 1
+            self.option(argument, option, value, words)
+        return self.commands
+
+
+def parse(arguments, cxx=False):
+    return Reader(cxx).read(arguments)

@@ -1,0 +1,225 @@
+"""The compiler, and the pass that is built for its version and tried once with it."""
+import fcntl
+import hashlib
+import os
+import re
+import shutil
+import subprocess
+import sys
+from contextlib import contextmanager, suppress
+from dataclasses import dataclass
+from pathlib import Path
+
+from .processes import Failed, say
+
+RECORDER = Path(__file__).resolve().parent.parent
+PASS = RECORDER / "pass"
+NAMES = RECORDER / "names"
+SUPPORTED = range(14, 20)
+REFUSED = 70                                                # the status of a program, a run or a compiler that is refused
+PLUGIN, TRUSTED = "cilkcheck.so", "trusted"
+VERSION = re.compile(r"\bclang version (\d+)(?:\.\d+)*")
+
+
+@dataclass(frozen=True)
+class Compiler:
+    """A clang: what is called, the file behind it, its version and the first line of `--version`."""
+    command: str
+    file: str
+    version: str = None
+    title: str = None
+
+    @property
+    def major(self):
+        return int(self.version.partition(".")[0])
+
+    def driver(self, cxx):
+        return [self.command, "--driver-mode=g++"] if cxx else [self.command]
+
+    @property
+    def identity(self):
+        """What changes when another compiler is installed there."""
+        st = os.stat(self.file)
+        return f"{st.st_mtime_ns} {st.st_size} {self.file}"
+
+    def asked(self):
+        """The same, with the version that it tells."""
+        with suppress(OSError, subprocess.SubprocessError):
+            ran = subprocess.run([self.command, "--version"], stdin=subprocess.DEVNULL, capture_output=True, text=True, errors="replace", timeout=60)
+            found = VERSION.search(ran.stdout)
+            if found:
+                return Compiler(self.command, self.file, found[0].rpartition(" ")[2], ran.stdout.splitlines()[0].strip())
+        return self
+
+    def supported(self):
+        """The same, with its version, or a refusal."""
+        it = self if self.version else self.asked()
+        if not it.version:
+            raise Failed(REFUSED, f"{self.command} is no clang: programs are recorded by clang {SUPPORTED[0]} to {SUPPORTED[-1]} (CILKCHECK_CC names one)")
+        if it.major not in SUPPORTED:
+            raise Failed(REFUSED, f"{self.command} is clang {it.version}: programs are recorded by clang {SUPPORTED[0]} to {SUPPORTED[-1]} (CILKCHECK_CC names one)")
+        return it
+
+
+def found():
+    """The compiler of CILKCHECK_CC, else `clang`, else the latest clang that has its version in its name."""
+    given = os.environ.get("CILKCHECK_CC")
+    for name in [given] if given else ["clang", *(f"clang-{it}" for it in reversed(SUPPORTED))]:
+        path = shutil.which(name)
+        if path:
+            return Compiler(path, os.path.realpath(path))
+    raise Failed(127, f"no compiler {given or 'clang'}" + ("" if given else " (Debian, Ubuntu: apt-get install clang)"))
+
+
+def sum_of(*files):
+    total = hashlib.sha256()
+    for it in files:
+        total.update(it.read_bytes() + b"\0")
+    return total.hexdigest()[:16]
+
+
+def sources():
+    """The checksum of what the pass is built of."""
+    return sum_of(*sorted(it for it in PASS.iterdir() if it.suffix in (".cpp", ".h", ".c") or it.name == "Makefile"))
+
+
+def is_writable(folder):
+    """Whether files can be made there, or in the first folder above it that is there."""
+    while not folder.exists():
+        folder = folder.parent
+    return os.access(folder, os.W_OK | os.X_OK)
+
+
+def cache():
+    """A folder of the user's own, where that of the recorder cannot be written to."""
+    home = os.environ.get("XDG_CACHE_HOME") or os.path.expanduser("~/.cache")
+    return Path(home) / "cilkcheck" / "pass"
+
+
+@contextmanager
+def locked(folder):
+    try:
+        folder.mkdir(parents=True, exist_ok=True)
+        lock = open(folder / "lock", "w", encoding="ascii")
+    except OSError as fault:
+        raise Failed(1, f"the compiler pass cannot be built: {fault.filename}: {fault.strerror}") from None
+    with lock:
+        fcntl.flock(lock, fcntl.LOCK_EX)
+        yield
+
+
+class Pass:
+    """The pass for a compiler. A line of the file `trusted` says: of these sources this plugin was built, and by this compiler, which is of this
+    version, it tells each kind of access."""
+
+    def __init__(self, compiler, session=None, places=None):
+        self.compiler, self.session, self.sources = compiler, session, sources()
+        self.places = places or [PASS / "out", cache()]
+
+    def trusted(self):
+        """(version, the title of the compiler, the plugin) of a compiler that was tried before, or None."""
+        identity = self.compiler.identity
+        for place in self.places:
+            with suppress(OSError):
+                for line in (place / TRUSTED).read_text(encoding="utf-8").splitlines():
+                    of, plugin, version, told, title = line.split("\t")
+                    if (of, told) == (self.sources, identity):
+                        for at in self.places:
+                            built = at / version / PLUGIN
+                            if built.exists() and sum_of(built) == plugin:
+                                return version, title, built
+        return None
+
+    def find(self):
+        """The compiler with its version, and its plugin, which is built and tried where that was not done before."""
+        known = self.trusted()
+        if not known:
+            self.compiler = self.compiler.supported()
+            place = next((it for it in self.places if is_writable(it)), self.places[-1])
+            with locked(place):
+                known = self.trusted() or self.prepared(place)
+        version, title, built = known
+        self.compiler = Compiler(self.compiler.command, self.compiler.file, version, title)
+        return self.compiler.supported(), built
+
+    def built(self):
+        """The plugin of these sources for the compiler's version, where there is one."""
+        for place in self.places:
+            folder = place / self.compiler.version
+            with suppress(OSError):
+                if (folder / "sources").read_text(encoding="ascii") == self.sources and (folder / PLUGIN).exists():
+                    return folder / PLUGIN
+        return None
+
+    def prepared(self, place):
+        compiler = self.compiler
+        plugin = self.built() or self.build(place / compiler.version)
+        self.tried(plugin, place)
+        line = "\t".join((self.sources, sum_of(plugin), compiler.version, compiler.identity, compiler.title))
+        told = place / TRUSTED
+        old = [it for it in (told.read_text(encoding="utf-8").splitlines() if told.exists() else []) if it.startswith(self.sources)]
+        new = place / f"{TRUSTED}.{os.getpid()}"
+        new.write_text("".join(f"{it}\n" for it in [*old, line]), encoding="utf-8")
+        new.replace(told)
+        return compiler.version, compiler.title, plugin
+
+    def headers(self):
+        """The folder of LLVM's headers for the compiler."""
+        beside = Path(self.compiler.file).parent.parent / "include"
+        if (beside / "llvm/Passes/PassPlugin.h").exists():
+            return str(beside)
+        config = shutil.which(f"llvm-config-{self.compiler.major}")
+        if config:
+            told = subprocess.run([config, "--includedir"], stdin=subprocess.DEVNULL, capture_output=True, text=True).stdout.strip()
+            if told and os.path.exists(f"{told}/llvm/Passes/PassPlugin.h"):
+                return told
+        package = f"llvm-{self.compiler.major}-dev"
+        raise Failed(1, f"the compiler pass needs the headers of LLVM {self.compiler.major}: install {package} (Debian, Ubuntu: apt-get install {package})")
+
+    def build(self, folder):
+        headers = self.headers()
+        by = shutil.which("g++") or shutil.which(self.compiler.command.replace("clang", "clang++")) or "c++"
+        say(f"building the compiler pass for clang {self.compiler.version}, this once: 10 to 20 s")
+        env = {name: value for name, value in os.environ.items() if name not in ("MAKEFLAGS", "MFLAGS", "MAKELEVEL", "CXX", "CXXFLAGS", "LDFLAGS")}
+        words = ["make", "-s", "-C", PASS, f"-j{os.cpu_count() or 1}", f"OUT={folder}", f"INCLUDE={headers}", f"CXX={by}", f"CLANG={self.compiler.file}"]
+        log = folder / "log"
+        try:
+            folder.mkdir(parents=True, exist_ok=True)
+            with open(log, "w", encoding="utf-8") as out:
+                status = self.session.start(words, stdin=subprocess.DEVNULL, stdout=out, stderr=out, env=env).wait()
+            if status or not (folder / PLUGIN).exists():
+                last = log.read_text(errors="replace").splitlines()[-15:]
+                sys.stderr.write("".join(f"{it}\n" for it in last))
+                raise Failed(1, f"the compiler pass does not build; all that was said is in {log}")
+            (folder / "sources").write_text(self.sources, encoding="ascii")
+        except OSError as fault:
+            raise Failed(1, f"the compiler pass cannot be built: {fault.filename}: {fault.strerror}") from None
+        return folder / PLUGIN
+
+    def tried(self, plugin, place):
+        """Compiles and runs a program with each kind of access, which ends with status 0 where all of them are told."""
+        folder = place / f"canary-{os.getpid()}"
+        try:
+            folder.mkdir()
+            for level in ("-O0", "-O2"):
+                words = [self.compiler.command, "-w", "-g", level, *flags(plugin), PASS / "canary.c", "-o", folder / "canary"]
+                how = {"stdin": subprocess.DEVNULL, "capture_output": True, "text": True, "errors": "replace", "timeout": 120}
+                made = subprocess.run([str(it) for it in words], env=environment(), **how)
+                ran = made if made.returncode else subprocess.run([folder / "canary"], **how)
+                if ran.returncode:
+                    said = next((it for it in (ran.stderr + ran.stdout).splitlines() if it.strip()), f"status {ran.returncode}")
+                    raise Failed(REFUSED, f"clang {self.compiler.version} ({self.compiler.file}) does not tell each access with the pass at {level}: {said}")
+        except subprocess.TimeoutExpired:
+            raise Failed(REFUSED, f"clang {self.compiler.version} ({self.compiler.file}) does not compile the pass's test in 120 s") from None
+        finally:
+            shutil.rmtree(folder, ignore_errors=True)
+
+
+def flags(plugin):
+    """How clang is called so that the pass tells what it compiles: calls of libraries stay calls."""
+    return [f"-fpass-plugin={plugin}", "-fno-builtin"]
+
+
+def environment():
+    """What the pass reads."""
+    return {**os.environ, "CILKCHECK_NAMES": str(NAMES)}

@@ -1,0 +1,225 @@
+"""Links a recorded program: with the runtime, with what is not seen inside as a note, and under its name only when it is whole."""
+import fcntl
+import os
+import shutil
+import struct
+import subprocess
+import sys
+from pathlib import Path
+
+from . import objects
+from .command_line import RECORDED, Input
+from .compiler import RECORDER, REFUSED
+from .processes import Failed, Output, say
+from .sources import Source
+
+RUNTIME = RECORDER / "runtime"
+# Functions of the user's with a name of libc's are reached under the name that the pass gave to their calls.
+OWN = "\t.globl {wrapped}\n\t.type {wrapped}, @function\n{wrapped}:\n\tjmp {name}@PLT\n"
+# a row of pass/rows.h without a file: the note is the text
+NOTE = """\t.section cilkcheck_notes, "a", @progbits
+\t.balign 4
+1:\t.long 0
+\t.long 2f - .
+\t.long 0, 0
+\t.section .rodata.cilkcheck, "a", @progbits
+2:\t.string "{text}"
+"""
+# What the runtime calls of the library of C++ are weak symbols, for which the linker takes no library.
+NEEDS_CXX = "\t.data\n\t.balign 8\n\t.quad __gxx_personality_v0\n"
+END = '\t.section .note.GNU-stack, "", @progbits\n'
+NO_CXX = {"-nostdlib", "-nodefaultlibs", "-nostdlib++"}
+
+
+def runtime_object():
+    """The runtime: installed, or built in the checkout on first use. Several makes may come here at once."""
+    given = os.environ.get("CILKCHECK_RUNTIME")
+    if given:
+        return Path(given)
+    installed, out = RUNTIME / "cilkcheck-runtime.o", RUNTIME / "out"
+    if installed.exists():
+        return installed
+    built = out / "cilkcheck-runtime.o"
+    if not os.access(RUNTIME, os.W_OK) and built.exists():
+        return built
+    try:
+        out.mkdir(exist_ok=True)
+        lock = open(out / "lock", "w", encoding="ascii")
+    except OSError as fault:
+        raise Failed(1, f"the runtime cannot be built: {fault.filename}: {fault.strerror}") from None
+    with lock:
+        fcntl.flock(lock, fcntl.LOCK_EX)
+        by = "gcc" if shutil.which("gcc") else "clang"
+        env = {name: value for name, value in os.environ.items() if name not in ("MAKEFLAGS", "MFLAGS", "MAKELEVEL", "CC", "CFLAGS")}
+        words = ["make", "-s", "-C", str(RUNTIME), f"-j{os.cpu_count() or 1}", f"OUT={out}", f"CC={by}"]
+        if subprocess.run(words, stdin=subprocess.DEVNULL, stdout=sys.stderr, env=env).returncode:
+            raise Failed(1, "the runtime does not build")
+    return built
+
+
+class Link:
+    """The link of a command line."""
+
+    def __init__(self, session, commands, compiler, plugin, cxx):
+        self.session, self.commands, self.compiler, self.plugin, self.cxx = session, commands, compiler, plugin, cxx
+        self.folder = None
+
+    def between(self, name):
+        """A file between the steps."""
+        self.folder = self.folder or self.session.folder()
+        return str(self.folder / name)
+
+    def compiled(self):
+        """The inputs for the linker: what is compiled, by its object."""
+        out = []
+        for at, it in enumerate(self.commands.inputs):
+            if not isinstance(it, Input):
+                out.append(it)
+            elif it.language:
+                stem = os.path.splitext(os.path.basename(it.name))[0].replace("[", "_") if it.name != "-" else "stdin"
+                target = self.between(f"{at}-{stem}.o")
+                if it.language in RECORDED:
+                    Source(self.session, self.commands, self.compiler, self.plugin, self.cxx, it).compile("-c", target)
+                else:
+                    assemble(self.session, self.commands, self.compiler.driver(self.cxx), it, "-c", target)
+                out.append(Input(target))
+            else:
+                out.append(it)
+        return out
+
+    def libraries(self, words):
+        """The archive or the library of the user's own that -lLIBRARY means, where there is one in a folder of -L."""
+        name = "".join(words)
+        if not name.startswith("-l"):
+            return []
+        folders = folders_of(self.commands.for_linking())
+        for folder in folders:
+            for suffix in ((".so", ".a") if "-static" not in self.commands.for_linking() else (".a",)):
+                file = os.path.join(folder, f"lib{name[2:]}{suffix}")
+                if os.path.isfile(file):
+                    return [file]
+        return []
+
+    def look(self, inputs, runtime):
+        """What nm says of the inputs."""
+        files = []
+        for it in inputs:
+            files += [it.path] if isinstance(it, Input) else self.libraries(it)
+        whole = any("--whole-archive" in word for it in inputs if not isinstance(it, Input) for word in it)
+        names, dynamic = {str(runtime)}, [it for it in files if ".so" in os.path.basename(it)]
+        static = [it for it in files if it not in dynamic and os.path.isfile(it)]
+        listing = self.session.output_of(["nm", "-A", "-g", "-P", "--", *dict.fromkeys([*static, *names])])
+        if dynamic:
+            listing += self.session.output_of(["nm", "-A", "-D", "-P", "--defined-only", "--", *dict.fromkeys(dynamic)])
+        everything = objects.members(listing)
+        defined = set().union(*(it.defined for it in everything if it.file == str(runtime)))
+        program = [it for it in everything if it.file != str(runtime)]
+        for it in program:
+            it.in_archive &= not whole
+        program = objects.linked(program, {"main"})
+        others = objects.other_versions(program)
+        if others:
+            raise Failed(REFUSED, f"refused: {others[0]} was compiled by another version of cilkcheck-cc: compile it again")
+        return objects.look(program, defined, "-r" in self.commands.for_linking())
+
+    def demangle(self, mangled):
+        if not any(it.startswith("_Z") for it in mangled):
+            return {it: it for it in mangled}
+        lines = self.session.output_of(["c++filt"], "".join(f"{it}\n" for it in mangled)).splitlines()
+        return dict(zip(mangled, lines)) if len(lines) == len(mangled) else {it: it for it in mangled}
+
+    def note(self, seen, needs_cxx):
+        """An object with what is not seen, and with the program's own functions that bear names of libc's; or None."""
+        parts = [NEEDS_CXX] if needs_cxx else []
+        if seen.own:
+            parts += ["\t.text\n", *(OWN.format(wrapped=objects.WRAPPED + name, name=name) for name in seen.own)]
+        if seen.unseen:
+            text = f"not seen inside: {objects.told(seen.unseen, self.demangle)}"
+            say(text)
+            parts.append(NOTE.format(text=text.replace("\\", "\\\\").replace('"', '\\"')))
+        if not parts:
+            return None
+        source, target = self.between("notes.s"), self.between("notes.o")
+        Path(source).write_text("".join([*parts, END]), encoding="utf-8", errors="surrogateescape")
+        self.session.run(["as", source, "-o", target])
+        return target
+
+    def link(self):
+        commands = self.commands
+        if commands.shared:
+            raise Failed(REFUSED, "refused: a shared library is not recorded: link its objects into the program")
+        sources = [it for it in commands.files() if it.language]
+        options = commands.for_linking()
+        is_partial = "-r" in options
+        output = Output(self.session, commands.output or "a.out")
+        inputs = self.compiled()
+        runtime = runtime_object()
+        cxx = self.cxx or any(it.is_cxx for it in sources)
+        words = [word for it in inputs for word in ([it.path] if isinstance(it, Input) else it)]
+        needs_cxx = not is_partial and (cxx or bool({"-lstdc++", "-lc++"} & set(words))) and not NO_CXX & set(options)
+        note = self.note(self.look(inputs, runtime), needs_cxx)
+        if note:
+            words.insert(0, note)
+        if not is_partial:
+            words += [str(runtime), "-lm"]
+        quiet = ["-Wno-unused-command-line-argument"] if sources else []
+        self.session.run([*self.compiler.driver(cxx), *quiet, *options, *words, "-o", output.made], stdin=subprocess.DEVNULL)
+        self.tell_places(output.made)
+        output.done()
+
+    def tell_places(self, program):
+        """The first of the places that the program itself notes as not seen."""
+        places = notes_of(program)
+        if places:
+            more = f" (and {len(places) - 1} more)" if len(places) > 1 else ""
+            say(f"not seen: {places[0]}{more}")
+
+
+def assemble(session, commands, driver, source, stage, target):
+    """What is compiled and not recorded: assembly, LLVM's own language, and languages that no Cilk is in."""
+    words = [*commands.for_preprocessing(), *commands.arguments("warning", "debug", "dependencies")]
+    session.run([*driver, *words, "-Wno-unused-command-line-argument", stage, "-x", source.language, source.path, "-o", target], stdin=subprocess.DEVNULL)
+
+
+def folders_of(options):
+    """The folders of -L."""
+    joined = " ".join(options).replace("-L ", "-L").split()
+    return [it.removeprefix("-L") for it in joined if it.startswith("-L")]
+
+
+def sections(image):
+    """The sections of a 64-bit ELF file: {name: (address, offset, bytes)}."""
+    if image[:5] != b"\x7fELF\x02" or len(image) < 64:
+        return {}
+    start, = struct.unpack_from("<Q", image, 0x28)
+    size, count, names = struct.unpack_from("<HHH", image, 0x3A)
+    rows = [struct.unpack_from("<IIQQQQ", image, start + index * size) for index in range(count)]
+    text = rows[names][4] if names < count else 0
+    return {image[text + row[0]:image.find(b"\0", text + row[0])].decode("ascii", "replace"): row[3:6] for row in rows}
+
+
+def notes_of(program):
+    """The rows of cilkcheck_notes that name a place (pass/rows.h), as FILE:LINE: WHAT."""
+    import mmap
+    with open(program, "rb") as file, mmap.mmap(file.fileno(), 0, access=mmap.ACCESS_READ) as image:
+        found = sections(image)
+        if "cilkcheck_notes" not in found:
+            return []
+        address, offset, size = found["cilkcheck_notes"]
+
+        def text(at):
+            """The text to which the reference in the file at `at` leads."""
+            far, = struct.unpack_from("<i", image, at)
+            target = address + at - offset + far
+            for begin, place, room in found.values():
+                if begin <= target < begin + room and begin:
+                    start = place + target - begin
+                    return image[start:image.find(b"\0", start)].decode("utf-8", "replace")
+            return ""
+
+        told = []
+        for at in range(offset, offset + size - 15, 16):
+            file_at, _, line, _ = struct.unpack_from("<iiII", image, at)
+            if file_at:
+                told.append(f"{text(at)}:{line}: {text(at + 4)}")
+        return sorted(set(told))

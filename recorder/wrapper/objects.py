@@ -1,0 +1,129 @@
+"""What the objects of a program define and call, and what of it is not seen inside."""
+import os
+import re
+from dataclasses import dataclass, field
+
+from . import names
+from .compiler import NAMES
+
+CODE, UNDEFINED, ABSENT = "TtWi", "Uwv", "wv"
+VERSION = "__cilkcheck_version_"
+KNOWN_VERSION = VERSION + "1"
+WRAPPED = "__cilkcheck_libc_"                               # before the name of a function of libc whose accesses the runtime tells
+VTABLE = "vtable for "
+# what compilers and linkers make for themselves
+MADE = re.compile(r"_ZT[TISH]|_ZGV|_GLOBAL_OFFSET_TABLE_|__start_|__stop_|__cilkcheck_|_ZN\d+__cilkcheck_")
+MOST_TOLD = 12
+
+
+@dataclass
+class Member:
+    """An object, or one of an archive."""
+    file: str
+    in_archive: bool = False
+    is_recorded: bool = False
+    version: str = None
+    defined: dict = field(default_factory=dict)             # the kind of each symbol, as nm has it
+    undefined: set = field(default_factory=set)
+
+    @property
+    def has_code(self):
+        return any(kind in CODE for kind in self.defined.values())
+
+
+def members(listing):
+    """The members of what `nm -A -g -P` says, in order."""
+    found = {}
+    for line in listing.splitlines():
+        place, _, rest = line.partition(": ")
+        words = rest.split()
+        if len(words) < 2:
+            continue
+        if place not in found:
+            # (an archive's member stands in brackets)
+            found[place] = Member(place.partition("[")[0], place.endswith("]"))
+        member, name, kind = found[place], words[0].partition("@")[0], words[1]
+        if kind in UNDEFINED:
+            member.undefined.add(name)
+            if name.startswith(VERSION):
+                member.is_recorded, member.version = True, name
+        else:
+            member.defined[name] = kind
+    return list(found.values())
+
+
+def linked(all_members, roots):
+    """Those that the linker takes: all objects, and of archives what defines a name that is missing; in the order of the command line."""
+    taken = [not it.in_archive for it in all_members]
+    missing = set(roots).union(*(it.undefined for it, is_taken in zip(all_members, taken) if is_taken))
+    missing -= set().union(*(it.defined.keys() for it, is_taken in zip(all_members, taken) if is_taken))
+    has_grown = True
+    while has_grown:
+        has_grown = False
+        for at, it in enumerate(all_members):
+            # (a function of libc's may be one of the archive's)
+            if not taken[at] and any(name in missing or WRAPPED + name in missing for name in it.defined):
+                taken[at] = has_grown = True
+                missing = (missing | it.undefined) - it.defined.keys() - {WRAPPED + name for name in it.defined}
+    return [it for it, is_taken in zip(all_members, taken) if is_taken]
+
+
+def definers(program):
+    """The member whose definition of each name the linker takes: the first one that is not weak, else the first."""
+    strong, weak = {}, {}
+    for it in program:
+        for name, kind in it.defined.items():
+            (weak if kind in "WVu" else strong).setdefault(name, it)
+    return weak | strong
+
+
+def listed(*lists):
+    """The names that stand first in the lines of these lists."""
+    lines = [line for name in lists for line in (NAMES / name).read_text(encoding="utf-8").splitlines() if line and not line.startswith("#")]
+    return {line.split()[0] for line in lines}
+
+
+@dataclass
+class Seen:
+    """Of a program: the functions that are called and not seen inside, and those of libc's names that are its own."""
+    unseen: list
+    own: list
+
+
+def look(program, runtime, is_partial=False):
+    """`runtime`: the names that the runtime defines. Where the link is partial, what is missing is none of its business."""
+    by_name, redirected, harmless = definers(program), listed("redirected"), listed("harmless")
+    called, own = set(), set()
+    for it in program:
+        if it.is_recorded:
+            for name in it.undefined:
+                plain = name.removeprefix(WRAPPED)
+                if name != plain and plain in by_name and by_name[plain].defined[plain] in CODE:
+                    own.add(plain)
+                called.add(plain)
+    unseen = set()
+    for name in called:
+        it = by_name.get(name)
+        if it is not None:
+            if not it.is_recorded and (it.defined[name] in CODE or name.startswith("_ZTV")):
+                unseen.add(name)
+        elif not is_partial and name not in runtime and name not in redirected and name not in harmless and not MADE.match(name):
+            unseen.add(name)
+    return Seen(sorted(unseen), sorted(own))
+
+
+def told(unseen, demangle):
+    """The text that names them."""
+    plain = demangle(unseen)
+    texts = []
+    for name in unseen:
+        it = plain[name]
+        texts.append(f"virtual functions of {names.short(it[len(VTABLE):])}" if it.startswith(VTABLE) else names.short(it))
+    texts = sorted(set(texts))
+    more = f", .. ({len(texts)} in all)" if len(texts) > MOST_TOLD else ""
+    return ", ".join(texts[:MOST_TOLD]) + more
+
+
+def other_versions(program):
+    """The files that were compiled for another version of the runtime."""
+    return sorted({os.path.basename(it.file) for it in program if it.version and it.version != KNOWN_VERSION})

@@ -1,0 +1,145 @@
+"""Compiles one source: clang says what it has to say of the user's text, while that text is rewritten and compiled with the pass."""
+import os
+import re
+import subprocess
+import sys
+
+from .compiler import RECORDER, REFUSED, environment, flags
+from .processes import Failed
+
+INCLUDE = RECORDER / "include"
+# a recorded program sees both, its serial elision the first two
+OURS = ["-D__CILKCHECK__=1", "-isystem", str(INCLUDE)]
+ELISION = [*OURS, "-D__CILKCHECK_ELISION__=1", "-D_Cilk_spawn=", "-D_Cilk_sync=((void)0)", "-D_Cilk_for=for", "-D_Cilk_scope="]
+# a #pragma omp that nobody reads is worth a warning, and no error
+OPENMP_UNREAD = ["-Wsource-uses-openmp", "-Wno-error=source-uses-openmp"]
+# each object that was compiled with the pass refers to it
+MARK = b"__cilkcheck_version_"
+# clang 14 crashes on some untied tasks; to a serial run the clause means nothing
+UNTIED = re.compile(r"^([ \t]*#[ \t]*pragma[ \t]+omp[ \t]+task(?:loop)?\b.*?)\buntied\b,?", re.M)
+MESSAGE = re.compile(r"^(?P<place>[^\n:]+:\d+)(?::\d+)*: (?:fatal )?error: (?P<why>.*)$", re.M)
+REFUSAL = re.compile(r"^cilkcheck: refused: (.*)$", re.M)
+INTERNAL = re.compile(r"cilkcheck|__cxx|\.omp|\.ii?\b")
+
+
+def spool(session, source):
+    """The source as bytes, where it can be read only once: standard input, a pipe, a device."""
+    if source.name == "-":
+        return sys.stdin.buffer.read()
+    if os.path.exists(source.name) and not os.path.isfile(source.name):
+        with open(source.name, "rb") as file:
+            # (its lines are told by its name)
+            return b'# 1 "%s"\n' % os.fsencode(source.name) + file.read()
+    return None
+
+
+class Source:
+    """One source of a command line, and how it is compiled."""
+
+    def __init__(self, session, commands, compiler, plugin, cxx, source):
+        self.session, self.commands, self.compiler, self.plugin, self.source = session, commands, compiler, plugin, source
+        self.driver = compiler.driver(cxx)
+        self.openmp = ["-fopenmp"] if commands.openmp else []
+        self.is_cxx = source.is_cxx
+        self.text = spool(session, source)
+
+    def input(self, language=None):
+        """The arguments that name the source."""
+        language = language or (self.source.language if self.source.given or self.text is not None else None)
+        return [*(["-x", language] if language else []), "-" if self.text is not None else self.source.path]
+
+    def start(self, words, given=None, **how):
+        """Starts a process that reads what was spooled, where something was."""
+        given = self.text if given is None else given
+        if given is None:
+            return self.session.start(words, stdin=subprocess.DEVNULL, **how)
+        with os.fdopen(os.memfd_create("source"), "w+b") as file:
+            file.write(given)
+            file.flush()
+            file.seek(0)
+            return self.session.start(words, stdin=file, **how)
+
+    def speaks(self):
+        """clang on the user's text, without the keywords: its errors, its warnings, its list of dependencies."""
+        unread = [] if self.commands.openmp else OPENMP_UNREAD
+        is_preprocessed = "cpp-output" in self.source.language
+        # (only what is preprocessed has its macros replaced)
+        language = {"cpp-output": "c", "c++-cpp-output": "c++"}[self.source.language] if is_preprocessed else None
+        undefined = ["-undef"] if is_preprocessed else []
+        words = [*unread, *self.commands.for_syntax(), *self.openmp, *ELISION, *undefined, "-fsyntax-only", *self.input(language)]
+        return self.start([*self.driver, *words])
+
+    def preprocessed(self):
+        """The text behind the preprocessor, or None with its status where there is none."""
+        if "cpp-output" in self.source.language:
+            if self.text is not None:
+                return self.text
+            try:
+                with open(self.source.name, "rb") as file:
+                    return file.read()
+            except OSError:
+                return None
+        words = [*self.driver, "-w", *self.commands.for_preprocessing(), *self.openmp, *OURS, "-U_FORTIFY_SOURCE", "-E", *self.input()]
+        child = self.start(words, stdout=subprocess.PIPE, stderr=subprocess.DEVNULL)
+        text = child.stdout.read()
+        child.stdout.close()
+        return None if child.wait() else text
+
+    def rewritten(self, text):
+        from rewriter import rewrite
+        text = rewrite(text.decode("utf-8", "surrogateescape"), self.is_cxx, self.commands.openmp)
+        if self.commands.openmp:
+            text = UNTIED.sub(r"\1", text)
+        return text.encode("utf-8", "surrogateescape")
+
+    def compiling(self, text, stage, target):
+        """The compiler on the rewritten text."""
+        openmp = ["-fopenmp"] if b"#pragma omp" in text or re.search(rb"#[ \t]*pragma[ \t]+omp\b", text) else []
+        language = "c++-cpp-output" if self.is_cxx else "cpp-output"
+        words = [*self.driver, *self.commands.for_compiling(), *openmp, "-w", "-g", *flags(self.plugin), "-fno-crash-diagnostics", "-fno-color-diagnostics",
+                 "-fno-caret-diagnostics", stage, "-x", language, "-", "-o", target]
+        return self.start(words, text, stdout=subprocess.DEVNULL, stderr=subprocess.PIPE, env=environment())
+
+    def compile(self, stage, target):
+        """Compiles to the target. What clang has to say comes first; where it has errors, nothing else is said."""
+        from rewriter import Refused
+        speaker = self.speaks()
+        fault, child = None, None
+        try:
+            text = self.preprocessed()
+            if text is not None:
+                child = self.compiling(self.rewritten(text), stage, target)
+        except Refused as it:
+            fault = Failed(REFUSED, f"refused: {it}")
+        status = speaker.wait()
+        if status:
+            raise Failed(status if status > 0 else 1)
+        if fault:
+            raise fault
+        if child is None:
+            raise Failed(1, f"{self.source.name}: clang does not preprocess it")
+        said = child.stderr.read().decode("utf-8", "replace")
+        child.stderr.close()
+        if child.wait():
+            raise self.unrecorded(said)
+        if not is_marked(target):
+            raise Failed(REFUSED, f"refused: {self.source.name}: the compiler left the pass out (an option keeps it from running)")
+
+    def unrecorded(self, said):
+        """Why the rewritten text was not compiled, though clang takes the user's."""
+        told = REFUSAL.search(said)
+        if told:
+            return Failed(REFUSED, f"refused: {told[1]}")
+        found = MESSAGE.search(said)
+        if found:
+            why = found["why"] if not INTERNAL.search(found["why"]) else "this statement cannot be recorded"
+            return Failed(REFUSED, f"refused: {found['place'].removeprefix('./')}: {why}")
+        lines = [it for it in said.splitlines() if "error:" in it] or said.splitlines() or ["no message"]
+        if re.search(r"No space left|File too large|unable to open output|IO failure", said):
+            return Failed(1, re.sub(r"^.*?error: ", "", lines[0]))
+        return Failed(REFUSED, f"refused: {self.source.name}: clang fails with the pass: {lines[0]}")
+
+
+def is_marked(target):
+    with open(target, "rb") as file:
+        return MARK in file.read()
