@@ -1,7 +1,7 @@
 #!/usr/bin/env python3
-"""Small programs with what is expected of them, by both compilers and three levels.
+"""Small programs with what is expected of them, at three levels.
 
-    cases.py [--cilkcheck PATH] [--jobs N] [--expect N] [--chosen | --spread | --levels LEVEL..] [NAME..]
+    cases.py [--cilkcheck PATH] [--jobs N] [--expect N] [--compilers NAME..] [--chosen | --spread | --levels LEVEL..] [NAME..]
 
 The first line of a case is a comment of parts between semicolons, the last one for the reader:
 
@@ -10,7 +10,7 @@ The first line of a case is a comment of parts between semicolons, the last one 
     expect: refused   by the wrapper or by the run: exit status 70, the line that says `refused`, no trace
     unseen: NAME      what is not seen is named, when the program is linked or run, and in the trace
     says: TEXT        is in the refusal
-    flags: ..         for the compiler; only: gcc | clang; levels: all (with --chosen too); from: -O1; plain: no (the elision's output is not compared)
+    flags: ..         for the compiler; levels: all (with --chosen too); from: -O2; plain: no (the elision's output is not compared)
 
 A refusal must say `cilkcheck: refused: FILE:LINE: why`. Else the run's output and status must be those of the serial elision.
 """
@@ -91,7 +91,7 @@ def compare(given, room, source, compiler, level, wanted, plain):
         return f"{name}: {wanted['unseen']} is not named as not seen: {told[-300:]} {notes[-300:]}"
     if "not seen" in notes and "unseen" not in wanted:
         return f"{name}: {notes[-300:]}"
-    expected = Expected(source, compiler)
+    expected = Expected(source)
     if kind not in ("clean", "race") or bool(expected.race) != (kind == "race"):
         return f"{name}: expects {kind}, and its lines tell of {len(expected.race)} races"
     said = expected.differences(verdicts.races(judged))
@@ -100,17 +100,17 @@ def compare(given, room, source, compiler, level, wanted, plain):
 
 def levels_of(given, wanted, k):
     if given.chosen:
-        levels = harness.LEVELS if wanted.get("levels") == "all" else ["-O0"]
+        levels = harness.LEVELS if wanted.get("levels") == "all" else ["-O0", "-O2"]
     else:
-        levels = ["-O0", ("-O1", "-O2")[k % 2]] if given.spread else given.levels
+        levels = ["-O0", ("-O2", "-O3")[k % 2]] if given.spread else given.levels
     return [it for it in levels if it >= wanted.get("from", it)]
 
 
 def main():
     parser = harness.parser(__doc__)
     parser.add_argument("--levels", nargs="*", default=harness.LEVELS)
-    parser.add_argument("--chosen", action="store_true", help="-O0, and for cases at which optimization is aimed -O1 and -O2 too")
-    parser.add_argument("--spread", action="store_true", help="-O0, and -O1 or -O2 in turns")
+    parser.add_argument("--chosen", action="store_true", help="-O0 and -O2, and for cases at which optimization is aimed -O3 too")
+    parser.add_argument("--spread", action="store_true", help="-O0, and -O2 or -O3 in turns")
     parser.add_argument("--compilers", nargs="*", default=harness.COMPILERS)
     parser.add_argument("names", nargs="*", help="cases, by the beginning of their names")
     given = parser.parse_args()
@@ -119,8 +119,7 @@ def main():
         jobs = []
         for k, source in enumerate(sources):
             wanted = header(source)
-            compilers = [it for it in given.compilers if wanted.get("only", it) == it]
-            ways = list(itertools.product(compilers, levels_of(given, wanted, k)))
+            ways = list(itertools.product(given.compilers, levels_of(given, wanted, k)))
             if ways:
                 jobs.append((given, room, source, ways))
         failures = harness.shown(it for found in harness.in_parallel(check, jobs, given.jobs) for it in found)

@@ -1,8 +1,7 @@
 """What a source says in its comments that its recording has to show.
 
 `race: a` stands at both lines that race (at one line twice, as `race: a a`, where it races with itself); a label on more lines allows each pair
-of them, and one has to be found. `gcc: a` and `clang: a` stand for a race that the recording of that compiler alone shows. `spawn: a` stands at
-the lines of spawns at which the two may part. `refused` stands at the line that is refused. Labels are separated by spaces; a comma separates the
+of them, and one has to be found. `spawn: a` stands at the lines of spawns at which the two may part. `refused` stands at the line that is refused. Labels are separated by spaces; a comma separates the
 kinds; what stands behind a semicolon is for the reader.
 """
 import re
@@ -13,7 +12,7 @@ COMMENT = re.compile(r"/\*(.*?)\*/|//(.*)")
 
 
 class Expected:
-    def __init__(self, source, compiler=None):
+    def __init__(self, source):
         self.source = Path(source)
         self.race, self.spawn, self.refused = {}, {}, []
         for number, line in enumerate(self.source.read_text().splitlines(), 1):
@@ -22,7 +21,7 @@ class Expected:
                     kind, _, labels = part.strip().partition(":")
                     if kind == "refused" and not labels.strip():
                         self.refused.append(number)
-                    elif kind in ("race", "spawn", compiler) and re.fullmatch(r"[a-z0-9 ]+", labels):
+                    elif kind in ("race", "spawn") and re.fullmatch(r"[a-z0-9 ]+", labels):
                         for label in labels.split():
                             (self.spawn if kind == "spawn" else self.race).setdefault(label, Counter())[number] += 1
 

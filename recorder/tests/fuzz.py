@@ -8,11 +8,10 @@ are handed on, blocks of the heap, results of spawns, spawned blocks, loops of s
 returns; in C++ references, lambdas, methods and exceptions besides; and a function with many frames that are alike, few of them racy. The oracle (oracle.py) interprets the same tree. Each program is recorded
 four times: compressed, compressed with the judge deciding epochs, compressed in traces of 60 requests (which the recorder may refuse), and with
 every access of every byte. Each recording has to show a race
-at exactly the bytes of globals at which the oracle finds one, and at as many bytes of locals and of the heap; at -O0 the lines of each report and
-the spawn at which they part have to be a pair and a spawn that the oracle knows for that byte (above it the compilers move code between lines);
-and the output has to be the serial elision's.
+at exactly the bytes of globals at which the oracle finds one, and at as many bytes of locals and of the heap; the lines of each report and
+the spawn at which they part have to be a pair and a spawn that the oracle knows for that byte; and the output has to be the serial elision's.
 
-Programs are spread over both compilers, three levels and both languages, 25 of them to a source.
+Programs are spread over the compilers, three levels and both languages, 25 of them to a source.
 """
 import concurrent.futures
 import itertools
@@ -133,7 +132,7 @@ class Group:
             else:
                 bytes_of_lives.add((address, int(life)))
             known = found.racy.get(place, {}) if place else found.pairs_of_lives
-            for it in refusals[cell] if self.level == "-O0" else []:
+            for it in refusals[cell]:
                 pair = (it.earlier.line, it.later.line)
                 spawns = known.get(pair) or known.get(pair[::-1])
                 if spawns is None:
@@ -167,13 +166,14 @@ def main():
     parser = harness.parser(__doc__)
     parser.add_argument("--count", type=int, default=300)
     parser.add_argument("--seed", type=int, default=1)
-    parser.add_argument("--only", nargs="*", default=[], help="of the groups those whose names begin so, as gcc-O1 or clang-O0-c++")
+    parser.add_argument("--compilers", nargs="*", default=harness.COMPILERS)
+    parser.add_argument("--only", nargs="*", default=[], help="of the groups those whose names begin so, as clang-O2 or clang-O0-c++")
     parser.add_argument("--keep", help="a folder in which sources and programs stay")
     parser.add_argument("--expect-racy", type=int, help="how many programs the oracle has to find racy")
     given = parser.parse_args()
     if given.keep:
         shutil.rmtree(given.keep, ignore_errors=True)
-    combinations = list(itertools.product(harness.LEVELS, harness.COMPILERS, (False, True)))
+    combinations = list(itertools.product(harness.LEVELS, given.compilers, (False, True)))
     runtime = harness.RECORDER / "runtime"
     failures, counts = [], Counter()
     with tempfile.TemporaryDirectory(prefix="cilkcheck-fuzz-") as room:

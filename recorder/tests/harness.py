@@ -13,8 +13,7 @@ import verdicts
 
 HERE = Path(__file__).resolve().parent
 RECORDER = HERE.parent
-COMPILERS, LEVELS = ("gcc", "clang"), ("-O0", "-O1", "-O2")
-PLAIN = {("gcc", False): "gcc", ("gcc", True): "g++", ("clang", False): "clang", ("clang", True): "clang++"}
+COMPILERS, LEVELS = ("clang",), ("-O0", "-O2", "-O3")
 CXX = (".cpp", ".cc", ".cxx")
 SECONDS = 300
 # The wrappers run by the Python that runs this, without a version manager's detour, and their modules are compiled once.
@@ -58,13 +57,13 @@ def is_cxx(sources):
 def compile(wrappers, sources, output, compiler, level, flags=(), cwd=".", runtime=None):
     """Compiles and links for a recording, with another build of the runtime where one is given."""
     tool = wrappers / ("cilkcheck-c++" if is_cxx(sources) else "cilkcheck-cc")
-    return run([tool, *sources, *flags, "-o", output], cwd, {"CILKCHECK_CC": compiler, **({"CILKCHECK_OPT": level} if level else {}), **({"CILKCHECK_RUNTIME": str(runtime)} if runtime else {})})
+    return run([tool, *([level] if level else []), *sources, *flags, "-o", output], cwd, {"CILKCHECK_CC": compiler, **({"CILKCHECK_RUNTIME": str(runtime)} if runtime else {})})
 
 
 def compile_plain(wrappers, sources, output, compiler, level, flags=(), cwd="."):
     """Compiles the serial elision: the recorder's headers, without the recorder."""
-    tool = PLAIN[compiler, is_cxx(sources)]
-    return run([tool, "-w", level, "-I", wrappers.parent / "include", *sources, *flags, "-o", output], cwd)
+    driver = [compiler, *(["--driver-mode=g++"] if is_cxx(sources) else [])]
+    return run([*driver, "-w", level, "-I", wrappers.parent / "include", *sources, *flags, "-o", output], cwd)
 
 
 def record(program, words=(), cwd=".", env=None):

@@ -50,7 +50,7 @@ def check(job):
     folder.mkdir()
     name = f"sanitized: {source.name} {' '.join([*flags, *words])}"
     is_refused = source.parent == cases.CASES and cases.header(source)["expect"] == "refused"
-    env = {"CILKCHECK_CC": "gcc", "CILKCHECK_RUNTIME": str(runtime), "CILKCHECK_UNSEEN": "note"}
+    env = {"CILKCHECK_RUNTIME": str(runtime)}
     for command in (
         [given.wrappers / "cilkcheck-cc", *flags, "-c", source, "-o", "program.o"],
         ["objcopy", f"--redefine-syms={renamed}", "program.o"],

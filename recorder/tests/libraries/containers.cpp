@@ -1,6 +1,6 @@
 // The functions that stand in for libstdc++'s trees and lists, by the containers themselves: random insertions, removals and walks give
 // what a sorted vector gives, each tree is red-black, and each access that is told lies in a node or in the container. Built and run by
-// libraries.sh as a program whose calls are renamed; prints what differs.
+// run.py as a program whose calls are renamed; prints what differs.
 #include <algorithm>
 #include <cstdint>
 #include <cstdio>
@@ -25,9 +25,7 @@ void refuse(uintptr_t, const char *text, ...) { std::puts(text), std::exit(70); 
 void note_unseen(const char *, ...) {}
 void end_lives() {}
 void hide_accesses(bool) {}
-void function_unwound(uintptr_t) {}
-bool spawn_awaited;
-void spawn_called(uintptr_t) {}
+const void *__cilkcheck_place;
 void finish_recording() {}
 void *plain_malloc(size_t bytes) { return std::malloc(bytes); }
 void plain_free(void *at) { std::free(at); }

@@ -48,9 +48,7 @@ void refuse(uintptr_t place, const char *format, ...) {
 void note_unseen(const char *format, ...) { (void)format; }
 void end_lives(uintptr_t from, uintptr_t to) { (void)from; (void)to; }
 void hide_accesses(bool on) { (void)on; }
-void function_unwound(uintptr_t start) { (void)start; }
-bool spawn_awaited;
-void spawn_called(uintptr_t place) { (void)place; }
+const struct cilkcheck_site *__cilkcheck_place;
 void finish_recording(void) {}
 void *plain_malloc(size_t bytes) { return malloc(bytes); }
 void plain_free(void *at) { free(at); }

@@ -240,10 +240,9 @@ class Oracle:
                 self.access(task, own, "w")
 
 
-def drawn(seed, compiler):
-    """The program of a seed: the first of its draws that is not too long, nor refused but where five divides the seed. By gcc each nogroup is refused
-    when the program is compiled."""
-    loops = ("", "grainsize(2)", "num_tasks(2)", *(["nogroup"] if compiler == "clang" else []))
+def drawn(seed):
+    """The program of a seed: the first of its draws that is not too long, nor refused but where five divides the seed."""
+    loops = "", "grainsize(2)", "num_tasks(2)", "nogroup"
     for draw in itertools.count():
         program = Program(seed, draw, loops)
         try:
@@ -263,7 +262,7 @@ def compiled_group(given, room, seeds, compiler, level):
     """Some programs, the folder of their source, and how that was compiled."""
     folder = Path(given.keep or room) / f"{compiler}{level}-{seeds[0]}"
     folder.mkdir(parents=True, exist_ok=True)
-    programs, lines = [drawn(it, compiler) for it in seeds], [HEADER]
+    programs, lines = [drawn(it) for it in seeds], [HEADER]
     for it in programs:
         it.write(lines)
     lines += ["int main(int count, char **words) {", "  switch (atoi(words[count - 1])) {", *(f"  case {it}: p{it}(); break;" for it in seeds), "  }\n  return 0;\n}"]

@@ -31,11 +31,10 @@ def wrappers_alone(room):
         run("gcc", "-std=gnu11", "-g", "-O1", "-fno-builtin", "-c", source, "-o", objects[-1])
     run("gcc", "-std=gnu11", "-g", "-fno-builtin", "-Wno-format", HERE / "effects.c", *objects, "-lm", "-o", room / "effects")
     print(run(room / "effects"))
-    for compiler in ("g++", "clang++"):
-        run(compiler, "-std=c++17", "-g", "-c", HERE / "containers.cpp", "-o", room / "containers.o")
-        run("objcopy", f"--redefine-syms={RECORDER / 'names' / 'redirected'}", room / "containers.o")
-        run(compiler, room / "containers.o", *objects, "-o", room / "containers")
-        print(f"{compiler}: {run(room / 'containers')}")
+    run("clang++", "-std=c++17", "-g", "-c", HERE / "containers.cpp", "-o", room / "containers.o")
+    run("objcopy", f"--redefine-syms={RECORDER / 'names' / 'redirected'}", room / "containers.o")
+    run("clang++", room / "containers.o", *objects, "-o", room / "containers")
+    print(run(room / "containers"))
 
 
 if __name__ == "__main__":

@@ -1,4 +1,4 @@
-/* expect: race; levels: all; flags: -D_FORTIFY_SOURCE=2; from: -O1; the checked variants of functions */
+/* expect: race; levels: all; flags: -D_FORTIFY_SOURCE=2; from: -O2; the checked variants of functions */
 #include <cilk/cilk.h>
 #include <stdio.h>
 #include <string.h>

@@ -1,4 +1,4 @@
-/* expect: race; only: clang; levels: all; flags: -fopenmp; plain: no; nogroup does not wait for the rounds of a taskloop */
+/* expect: race; levels: all; flags: -fopenmp; plain: no; nogroup does not wait for the rounds of a taskloop */
 static int a[20], seen;
 int main(void) {
   int only_read = 0;
