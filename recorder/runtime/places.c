@@ -25,7 +25,8 @@ static uint32_t site_count, *slots, mask = (1u << 10) - 1;      /* slots: a hash
 
 void places_begin(void) {
   size_t bytes = (size_t)((const char *)cilkcheck_sites_end - (const char *)cilkcheck_sites_begin);
-  if (bytes % sizeof(struct cilkcheck_site)) refuse(0, "the program's table of places is not as this version writes it: compile it again");
+  if (bytes % sizeof(struct cilkcheck_site)) refuse(0, "the program's table of places is of another version: compile the program again");
+  if (bytes && !cilkcheck_sites_begin->file) refuse(0, "the program's table of places is gone: link it again, and keep the section cilkcheck_sites");
   places.rows = (uintptr_t)cilkcheck_sites_begin;
   places.bytes = bytes;
   places.sites = reserve(sizeof *places.sites * (bytes / sizeof(struct cilkcheck_site) + 1));
