@@ -22,8 +22,8 @@ def statement(rewriter, at):
     begin = source.solid(close + 1)
     end = statement_end(rewriter, begin)
     body = spawns.outlined(rewriter, at, begin, end, "a cilk_for", variable)
-    head = source.text(opening, close + 1) + source.text(close + 1, begin)
-    return block(rewriter, f"for {head}{{ {body} }}"), end
+    head = source.back_to(at) + "for" + " " * (len("cilk_for") - len("for")) + source.text(at + 1, close + 1)
+    return block(rewriter, f"{head} {{ {body} }}"), end
 
 
 def scope(rewriter, at, context):
@@ -39,10 +39,10 @@ def block(rewriter, text, sync_inside=False):
     """Left by its end, a jump, a return or an exception, the block syncs."""
     name = rewriter.source.fresh()
     if sync_inside:                                         # before its locals end
-        text = text[:text.rindex("}")] + "__cilkcheck_sync(); }"
+        text = text[:text.rindex("}")] + "__cilkcheck_mark_sync(); }"
     if rewriter.cxx:
         return f"{{ __cilkcheck_scope {name}; {text} }}"
-    return f"{{ char {name} __attribute__((cleanup(__cilkcheck_scope_left), unused)); __cilkcheck_scope_begin(); {text} }}"
+    return f"{{ char {name} __attribute__((cleanup(__cilkcheck_mark_scope_left))); __cilkcheck_mark_scope_begin(); {text} }}"
 
 
 def statement_end(rewriter, begin):
@@ -52,19 +52,19 @@ def statement_end(rewriter, begin):
         return source.closing(begin) + 1
     if token in ("for", "while", "if", "switch", "_Cilk_for"):
         opening = source.solid(begin + 1)
-        while source.tokens[opening] != "(":
+        while source.tokens[opening] == "!" or source.kinds[opening] == "name":
             opening = source.solid(opening + 1)
-        end = statement_end(rewriter, source.solid(source.closing(opening) + 1))
+        end = source.closing(opening) + 1 if source.tokens[opening] == "{" else statement_end(rewriter, source.solid(source.closing(opening) + 1))
         if token == "if" and source.tokens[source.solid(end)] == "else":
             return statement_end(rewriter, source.solid(source.solid(end) + 1))
         return end
     if token == "_Cilk_scope":
         return statement_end(rewriter, source.solid(begin + 1))
-    if token == "_Cilk_spawn" and source.tokens[source.solid(begin + 1)] == "{":
-        return source.closing(source.solid(begin + 1)) + 1
+    if token == "_Cilk_spawn":
+        return statement_end(rewriter, source.solid(begin + 1))
     if token == "do":
         return source.semicolon(statement_end(rewriter, source.solid(begin + 1))) + 1
-    if token == "try":
+    if token == "try" and rewriter.cxx:
         end = source.closing(source.solid(begin + 1)) + 1
         while source.tokens[source.solid(end)] == "catch":
             end = source.closing(source.solid(source.closing(source.solid(source.solid(end) + 1)) + 1)) + 1
@@ -72,6 +72,8 @@ def statement_end(rewriter, begin):
     colon = source.solid(begin + 1)
     if source.kinds[begin] == "name" and source.tokens[colon] == ":" or token == "case":
         while source.tokens[colon] != ":":
+            if source.kinds[colon] == "end":
+                source.refuse(begin, "a label without its :")
             colon = source.solid(colon + 1)
         following = source.solid(colon + 1)
         return statement_end(rewriter, following) if source.tokens[following] != "}" else following
@@ -80,7 +82,7 @@ def statement_end(rewriter, begin):
 
 def initialized(source, at, begin, end):
     """The loop's variable."""
-    words = spawns.outside_brackets(source, begin, end)
+    words = spawns.words_outside(source, begin, end)
     if ":" in words or "=" not in words:
         source.refuse(at, "a cilk_for begins with VARIABLE = VALUE, with or without a type")
     if "," in words:
@@ -92,7 +94,7 @@ def initialized(source, at, begin, end):
 
 
 def check_condition(source, at, variable, begin, end):
-    words = spawns.outside_brackets(source, begin, end)
+    words = spawns.words_outside(source, begin, end)
     if any(word in ("&&", "||", ",", "?") for word in words):
         source.refuse(at, "the condition of a cilk_for is one comparison of its variable by <, <=, >, >= or !=")
     solids = source.words(begin, end)
@@ -105,6 +107,6 @@ def check_condition(source, at, variable, begin, end):
 def check_increment(source, at, variable, begin, end):
     words = source.words(begin, end)
     step = len(words) == 2 and variable in words and ("++" in words or "--" in words)
-    stride = len(words) > 2 and words[0] == variable and words[1] in ("+=", "-=") and not {",", "="} & set(spawns.outside_brackets(source, begin, end))
+    stride = len(words) > 2 and words[0] == variable and words[1] in ("+=", "-=") and not {",", "="} & set(spawns.words_outside(source, begin, end))
     if not step and not stride:
         source.refuse(at, "the increment of a cilk_for is ++, --, += or -= of its variable")

@@ -7,33 +7,10 @@ UNTOLD = {"for", "sections", "section", "ordered", "target", "teams", "distribut
 CLAUSES = re.compile(r"\b(depend|detach|in_reduction|task_reduction|reduction|copyin|copyprivate|affinity)\s*\(")
 # [[omp::directive(task)]], [[using omp: sequence(..)]]
 ATTRIBUTE = re.compile(r"omp\s*::?\s*(?:directive|sequence)\b")
-# makes gcc hand over what a task only reads by its address (runtime/abi.h)
-SHARES = " depend(inout: __cilkcheck_task)"
 
 
-def declaration(file, cxx):
-    """What a text with that clause has to begin with."""
-    linkage = 'extern "C"' if cxx else "extern"
-    return f'# 0 "{file}"\n# 1 "<recorder>" 1 3\n{linkage} char __cilkcheck_task;\n# 0 "{file}" 2\n'
-
-
-def share(source):
-    """Puts that clause to each task."""
-    for at, token in enumerate(source.tokens):
-        if source.kinds[at] == "directive" and re.match(r"\s*#\s*pragma\s+omp\s+task\b", token):
-            source.tokens[at] = token.rstrip("\n") + SHARES + token[len(token.rstrip("\n")):]
-
-
-def outside_parentheses(text):
-    """The names of a directive and its clauses."""
-    while (shorter := re.sub(r"\([^()]*\)", "", text)) != text:
-        text = shorter
-    return text
-
-
-def check(source, used, copies_into_tasks=False):
-    """Refuses what would be judged wrongly. Where the user gave no -fopenmp, the directives are taken out, as the compiler would.
-    `copies_into_tasks`: see rewrite.py."""
+def check(source, used):
+    """Refuses what would be judged wrongly. Where the user gave no -fopenmp, the directives are taken out, as the compiler would."""
     for at, token in enumerate(source.tokens):
         if used and token == "omp" and ATTRIBUTE.match("".join(source.words(at, at + 5))):
             source.refuse(at, "a directive of OpenMP as an attribute is not recorded: write it as #pragma omp")
@@ -57,6 +34,3 @@ def check(source, used, copies_into_tasks=False):
         clause = CLAUSES.search(found.group(1))
         if clause:
             source.refuse(at, f"#pragma omp {' '.join(words)} with {clause.group(1)} is not recorded")
-        # a taskloop takes no `depend` (SHARES); without nogroup its maker waits for the rounds, and writes nothing beside them
-        if copies_into_tasks and "taskloop" in words and "nogroup" in re.findall(r"\w+", outside_parentheses(found.group(1))):
-            source.refuse(at, "#pragma omp taskloop nogroup: gcc copies what the rounds only read, so that nobody tells a write beside them (CILKCHECK_CC=clang records it)")

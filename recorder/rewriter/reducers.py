@@ -25,8 +25,8 @@ def classify(source):
 
 
 def outer_bracket(source, at):
-    """The first ( of `(*(__cilkcheck_reducer((void *)&(r), USE, ..`, or None."""
-    opening = next((k for k in range(at, max(at - 4000, 0), -1) if source.tokens[k] == "__cilkcheck_reducer"), None)
+    """The first ( of `(*(__cilkcheck_mark_reducer((void *)&(r), USE, ..`, or None."""
+    opening = next((k for k in range(at, max(at - 4000, 0), -1) if source.tokens[k] == "__cilkcheck_mark_reducer"), None)
     if opening is None:
         return None
     inner = source.before(opening)

@@ -4,11 +4,12 @@ What holds no keyword is copied as it is. In a function that spawns each return,
 of a return is computed before it, and the locals of the function end behind it, as in Cilk Plus.
 """
 import re
-from dataclasses import dataclass
+import sys
+from dataclasses import dataclass, replace
 from pathlib import Path
 
 from . import loops, openmp, reducers, spawns
-from .source import KEYWORDS, Source
+from .source import ANY_KEYWORD, KEYWORDS, Refused, Source
 
 PRELUDE = Path(__file__).resolve().parent.parent / "include" / "cilkcheck"
 CLASSES = {"class", "struct", "union"}
@@ -28,9 +29,14 @@ class Context:
 
 
 class Rewriter:
-    def __init__(self, source, cxx, tells_all_locals, copies_into_tasks):
-        self.source, self.cxx, self.tells_all_locals, self.copies_into_tasks = source, cxx, tells_all_locals, copies_into_tasks
-        self.before_cxx14 = False                           # lambdas then have no decltype(auto)
+    def __init__(self, source, cxx):
+        self.source, self.cxx = source, cxx
+        self.spawns = 0                                     # those of C, by which a mark and its end are a pair
+        self.kinds = {"do": self.do, "case": self.case, "default": self.default, "return": self.returned, "break": self.broken, "continue": self.continued,
+                      "goto": self.gone, "_Cilk_spawn": self.spawn, "_Cilk_sync": self.sync, "_Cilk_for": self.loop, "_Cilk_scope": self.scope}
+        self.kinds |= dict.fromkeys(("if", "while", "for", "switch"), self.controlled)
+        if cxx:
+            self.kinds |= {"try": self.tried} | dict.fromkeys(("co_return", "co_await", "co_yield"), self.coroutine)
 
     # ---- declarations ----
 
@@ -62,6 +68,7 @@ class Rewriter:
                 at = close + 1
                 continue
             source.closing(at)
+            opening = at
             if token != "{":
                 out.append(source.text(copied, at) + self.expression(at, close + 1, Context()))
                 at = copied = close + 1
@@ -75,7 +82,7 @@ class Rewriter:
             else:
                 out.append(self.expression(at, close + 1, Context()))
             at = copied = close + 1
-            if self.ends_there(begin, at - 1 - (close - source.solid(close)), close, end, what):
+            if self.ends_there(begin, opening, close, end, what):
                 return "".join(out), at
         return "".join(out) + self.expression(copied, end, Context()), end
 
@@ -145,27 +152,7 @@ class Rewriter:
             return source.text(opening, close + 1)
         syncs = source.contains(opening, close, "_Cilk_spawn")
         inside = self.statements(opening + 1, close, Context(syncs=syncs))
-        return "{" + inside + ("__cilkcheck_sync(); " if syncs and not self.leaves(opening + 1, close) else "") + "}"
-
-    def leaves(self, begin, end):
-        """Whether statements are sure to end with a return. (gcc warns of a missing return where a call follows.)"""
-        source, at, last = self.source, begin, None
-        while source.solid(at) < end:
-            last = source.solid(at)
-            at = loops.statement_end(self, last)
-        if last is None:
-            return False
-        if source.tokens[last] == "return":
-            return True
-        if source.tokens[last] == "{":
-            return self.leaves(last + 1, source.closing(last))
-        if source.tokens[last] == "if":
-            opening = source.solid(last + 1)
-            then = source.solid(source.closing(opening) + 1) if source.tokens[opening] == "(" else end
-            behind = loops.statement_end(self, then) if then < end else end
-            other = source.solid(behind)
-            return other < end and source.tokens[other] == "else" and self.leaves(then, behind) and self.leaves(source.solid(other + 1), end)
-        return False
+        return "{" + inside + ("__cilkcheck_mark_sync(); " if syncs else "") + "}"
 
     def statements(self, begin, end, context):
         source, out, at = self.source, [], begin
@@ -175,7 +162,7 @@ class Rewriter:
                 at += 1
                 continue
             text, following = self.statement(at, context)
-            out.append(source.in_step(text, at, following) if text != source.text(at, following) else text)
+            out.append(text if text == source.text(at, following) else text + source.back_to(following))
             at = following
         return "".join(out)
 
@@ -196,11 +183,8 @@ class Rewriter:
             return self.simple(at, context)
         if kind != "name":
             return self.simple(at, context)
-        method = getattr(self, "statement_" + token, None)
-        if method:
-            return method(at, context)
-        if token in ("if", "while", "for", "switch"):
-            return self.controlled(at, context)
+        if token in self.kinds:
+            return self.kinds[token](at, context)
         follows = source.solid(at + 1)
         if source.tokens[follows] == ":" and source.kinds[follows] == "operator":
             return self.prefixed(at, follows + 1, context)
@@ -210,7 +194,7 @@ class Rewriter:
         """A label or an attribute, and its statement where one follows."""
         source = self.source
         following = source.solid(behind)
-        if source.tokens[following] in ("}", ""):
+        if source.tokens[following] == "}" or source.kinds[following] == "end":
             return source.text(at, behind), behind
         text, end = self.statement(following, context)
         return source.text(at, following) + text, end
@@ -223,45 +207,57 @@ class Rewriter:
 
     def part(self, begin, context):
         """A statement that is a part of another; the text before it is kept."""
-        following = self.source.solid(begin)
+        source, following = self.source, self.source.solid(begin)
         text, end = self.statement(following, context)
-        return self.source.text(begin, following) + text, end
+        if text != source.text(following, end):
+            text = f"{{{text}}}{source.back_to(end)}"
+        return source.text(begin, following) + text, end
 
     def controlled(self, at, context):
         """if, while, for, switch: parentheses and a statement."""
         source, token = self.source, self.source.tokens[at]
         opening = source.solid(at + 1)
-        while source.tokens[opening] in ("constexpr", "consteval", "!") or (source.tokens[opening] != "(" and source.kinds[opening] == "name"):
+        while source.tokens[opening] == "!" or source.kinds[opening] == "name":      # if constexpr, if not consteval
             opening = source.solid(opening + 1)
+        if source.tokens[opening] == "{":
+            return self.consteval(at, opening, context)
         close = source.closing(opening)
         text = source.text(at, opening) + self.expression(opening, close + 1, context)
         inner = context
         if token in ("while", "for"):
-            inner = Context(context.syncs, context.outlined, True, True, context.labels)
+            inner = replace(context, breaks=True, continues=True)
         elif token == "switch":
-            inner = Context(context.syncs, context.outlined, True, context.continues, context.labels)
+            inner = replace(context, breaks=True)
         more, end = self.part(close + 1, inner)
         text += more
-        if token == "if" and source.tokens[source.solid(end)] == "else":
-            follows = source.solid(end)
-            more, behind = self.part(follows + 1, context)
-            return text + source.text(end, follows + 1) + more, behind
-        return text, end
+        return self.otherwise(text, end, context) if token == "if" else (text, end)
 
-    def statement_do(self, at, context):
+    def consteval(self, at, opening, context):
+        text, end = self.block(opening, context)
+        return self.otherwise(self.source.text(at, opening) + text, end, context)
+
+    def otherwise(self, text, end, context):
+        """The text, and the `else` that may follow."""
+        source, follows = self.source, self.source.solid(end)
+        if source.tokens[follows] != "else":
+            return text, end
+        more, behind = self.part(follows + 1, context)
+        return text + source.text(end, follows + 1) + more, behind
+
+    def do(self, at, context):
         source = self.source
-        text, end = self.part(at + 1, Context(context.syncs, context.outlined, True, True, context.labels))
+        text, end = self.part(at + 1, replace(context, breaks=True, continues=True))
         semicolon = source.semicolon(end)
         return "do" + text + self.expression(end, semicolon + 1, context), semicolon + 1
 
-    def statement_try(self, at, context):
+    def tried(self, at, context):
         """A try block that spawns ends with a sync, before its locals end."""
         source = self.source
         opening = source.solid(at + 1)
         close = source.closing(opening)
         text, end = self.block(opening, context)
         if source.contains(opening, close, "_Cilk_spawn"):
-            text = text[:text.rindex("}")] + "__cilkcheck_sync(); }"
+            text = text[:text.rindex("}")] + "__cilkcheck_mark_sync(); }"
         text = source.text(at, opening) + text
         while source.tokens[source.solid(end)] == "catch":
             follows = source.solid(end)
@@ -270,19 +266,19 @@ class Rewriter:
             text, end = text + source.text(end, block) + more, behind
         return text, end
 
-    def statement_case(self, at, context):
+    def case(self, at, context):
         source, end, questions = self.source, at, 0
         while not (source.tokens[end] == ":" and questions == 0):
-            if source.tokens[end] in ("{", "}", ";", ""):
+            if source.tokens[end] in ("{", "}", ";") or source.kinds[end] == "end":
                 source.refuse(at, "a case without its :")
             questions += (source.tokens[end] == "?") - (source.tokens[end] == ":")
             end += 1
         return self.prefixed(at, end + 1, context)
 
-    def statement_default(self, at, context):
+    def default(self, at, context):
         return self.prefixed(at, self.source.solid(at + 1) + 1, context)
 
-    def statement_return(self, at, context):
+    def returned(self, at, context):
         source, semicolon = self.source, self.source.semicolon(at)
         if context.outlined:
             source.refuse(at, f"a return out of {context.outlined}")
@@ -290,47 +286,46 @@ class Rewriter:
         if not context.syncs:
             return text, semicolon + 1
         name = source.fresh()
+        text = source.back_to(at) + text
         if self.cxx:
             return f"{{ __cilkcheck_syncs {name}; {text} }}", semicolon + 1
-        return f"{{ char {name} __attribute__((cleanup(__cilkcheck_sync_left), unused)); {text} }}", semicolon + 1
+        return f"{{ char {name} __attribute__((cleanup(__cilkcheck_mark_sync_left))); {text} }}", semicolon + 1
 
-    def statement_break(self, at, context):
+    def broken(self, at, context):
         if context.outlined and not context.breaks:
             self.source.refuse(at, f"a break out of {context.outlined}")
         return self.simple(at, context)
 
-    def statement_continue(self, at, context):
+    def continued(self, at, context):
         if context.outlined and not context.continues:
             self.source.refuse(at, f"a continue out of {context.outlined}")
         return self.simple(at, context)
 
-    def statement_goto(self, at, context):
+    def gone(self, at, context):
         source, label = self.source, self.source.solid(at + 1)
         if context.outlined and (source.kinds[label] != "name" or source.tokens[label] not in context.labels):
             source.refuse(at, f"a goto out of {context.outlined}")
         return self.simple(at, context)
 
-    def statement_co_return(self, at, context):
+    def coroutine(self, at, context):
         if context.syncs or context.outlined:
             self.source.refuse(at, "a coroutine that spawns")
         return self.simple(at, context)
 
-    statement_co_await = statement_co_yield = statement_co_return
-
-    def statement__Cilk_spawn(self, at, context):
+    def spawn(self, at, context):
         return spawns.statement(self, at, at, context)
 
-    def statement__Cilk_sync(self, at, context):
+    def sync(self, at, context):
         source = self.source
         semicolon = source.solid(at + 1)
         if source.tokens[semicolon] != ";":
             source.refuse(at, "cilk_sync stands alone, with a ; behind it")
-        return "__cilkcheck_sync()" + source.text(at + 1, semicolon + 1), semicolon + 1
+        return "__cilkcheck_mark_sync()" + source.text(at + 1, semicolon + 1), semicolon + 1
 
-    def statement__Cilk_for(self, at, context):
+    def loop(self, at, context):
         return loops.statement(self, at)
 
-    def statement__Cilk_scope(self, at, context):
+    def scope(self, at, context):
         return loops.scope(self, at, context)
 
     def simple(self, at, context):
@@ -364,7 +359,8 @@ class Rewriter:
         while at < end:
             token, kind = source.tokens[at], source.kinds[at]
             if kind == "name" and token in KEYWORDS:
-                source.refuse(at, f"{KEYWORDS[token]}: {OPENCILK}" if token not in PLACES else f"{KEYWORDS[token]} stands where it may not: {PLACES[token]}")
+                keyword = KEYWORDS[token]
+                source.refuse(at, f"{keyword.name}{' ' if keyword.refusal.startswith('stands') else ': '}{keyword.refusal}")
             if kind == "operator" and token == "[" and self.begins_lambda(at):
                 opening = self.lambda_body(at, end)
                 if opening is not None:
@@ -420,20 +416,11 @@ class Rewriter:
 
 
 OPENINGS = {"(", "[", "{"}
-PLACES = {
-    "_Cilk_spawn": "it begins a statement, or stands behind the = of one",
-    "_Cilk_sync": "it is a statement of its own",
-    "_Cilk_for": "it begins a statement in a function",
-    "_Cilk_scope": "it begins a statement in a function",
-}
-OPENCILK = "a reducer of OpenCilk, which gcc and clang do not compile; take one of Cilk Plus (<cilk/reducer_opadd.h> and others)"
 
 
-def rewrite(text, cxx, openmp_on=False, tells_all_locals=False, copies_into_tasks=False):
-    """The text with calls of the recorder in place of the keywords. Raises Refused. `openmp_on`: the user gave -fopenmp; `tells_all_locals`: the
-    compiler tells the accesses of locals that nobody can share, too; `copies_into_tasks`: it hands a variable that a task only reads to the
-    task by value, so that nobody tells a write beside the task, unless the task has a `depend` clause."""
-    has_keywords = re.search(r"\b(?:_Cilk_(?:spawn|sync|for|scope|reducer)|_Hyperobject)\b", text) is not None
+def rewrite(text, cxx, openmp_on=False):
+    """The text with marks for the compiler pass in place of the keywords. Raises Refused. `openmp_on`: the user gave -fopenmp."""
+    has_keywords = ANY_KEYWORD.search(text) is not None
     if cxx:
         text = STRINGS.sub(lambda found: "\n" * found.group().count("\n"), text)
     has_views = not cxx and reducers.USE in text
@@ -441,24 +428,26 @@ def rewrite(text, cxx, openmp_on=False, tells_all_locals=False, copies_into_task
     if not has_keywords and not has_views and not has_directives:
         return text
     source = Source(text)
-    openmp.check(source, openmp_on, copies_into_tasks)
-    if copies_into_tasks and openmp_on:
-        openmp.share(source)
+    openmp.check(source, openmp_on)
     if has_views:
         reducers.classify(source)
+    if not has_keywords:
+        return source.text(0, len(source.tokens))
     main = MAIN.match(text)
     file = main.group(1) if main else "<stdin>"
-    if not has_keywords:
-        told = source.text(0, len(source.tokens))
-        return openmp.declaration(file, cxx) + told if openmp.SHARES in told else told
-    rewriter = Rewriter(source, cxx, tells_all_locals, copies_into_tasks)
-    standard = re.search(r"__cilkcheck_cplusplus = (\d+)", text)
-    rewriter.before_cxx14 = standard is not None and int(standard.group(1)) < 201402
     prelude = PRELUDE / ("calls.hpp" if cxx else "calls.h")
     begin = f'# 0 "{file}"\n# 1 "{prelude}" 1 3\n{prelude.read_text()}\n# 0 "{file}" 2\n'
-    return begin + rewriter.declarations(0, len(source.tokens) - 1)
+    limit = sys.getrecursionlimit()
+    sys.setrecursionlimit(max(limit, DEEPEST))
+    try:
+        return begin + Rewriter(source, cxx).declarations(0, len(source.tokens) - 1)
+    except RecursionError:
+        raise Refused(file, source.places[source.keywords[0]][1], "statements that are nested too deeply") from None
+    finally:
+        sys.setrecursionlimit(limit)
 
 
+DEEPEST = 20000
 MAIN = re.compile(r'# [01] "((?:[^"\\]|\\.)*)"\n')
 # so that the functions of std::string are compiled with the program, and seen
 STRINGS = re.compile(r"^[ \t]*extern[ \t\n]+template[ \t\n]+(?:class[ \t\n]+)?basic_string\b[^;]*;", re.M)

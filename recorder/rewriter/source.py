@@ -1,6 +1,7 @@
 """Preprocessed text as tokens with their files and lines."""
 import bisect
 import re
+from dataclasses import dataclass
 
 TOKEN = re.compile(r'''
     (?P<directive>^[ \t]*\#[^\n]*)
@@ -10,12 +11,39 @@ TOKEN = re.compile(r'''
   | (?P<character>(?:u8|[uUL])?'(?:[^'\\\n]|\\.)*')
   | (?P<number>\.?[0-9](?:[eEpP][+-]|'[0-9a-zA-Z]|[0-9a-zA-Z_.])*)
   | (?P<name>[A-Za-z_$\u0080-\U0010ffff][A-Za-z0-9_$\u0080-\U0010ffff]*)
+  | (?P<digraph><%|%>|:>|<:(?!:(?![:>])))
   | (?P<operator><<=|>>=|->\*|\.\.\.|->|::|\+\+|--|<<|[-+*/%&|^<>=!]=|&&|\|\||.)
 ''', re.X | re.S | re.M)
 MARK = re.compile(r'[ \t]*#(?:line)?[ \t]+(\d+)[ \t]+"((?:[^"\\]|\\.)*)"([ \d]*)$')
 OPEN = {"(": ")", "[": "]", "{": "}"}
-KEYWORDS = {"_Cilk_spawn": "cilk_spawn", "_Cilk_sync": "cilk_sync", "_Cilk_for": "cilk_for", "_Cilk_scope": "cilk_scope", "_Cilk_reducer": "cilk_reducer",
-            "_Hyperobject": "_Hyperobject"}
+DIGRAPHS = {"<%": "{", "%>": "}", "<:": "[", ":>": "]"}
+
+
+@dataclass(frozen=True)
+class Keyword:
+    """`name`: as <cilk/cilk.h> spells it; `elision`: what it is to a serial compiler; `refusal`: why it may not stand where it does."""
+    name: str
+    elision: str
+    refusal: str
+
+
+def misplaced(where):
+    return "stands where it may not: " + where
+
+
+OPENCILK = "a reducer of OpenCilk, which clang does not compile; take one of Cilk Plus (<cilk/reducer_opadd.h> and others)"
+# The one list of them. <cilk/cilk.h> defines the names (a test compares), and the wrapper the elisions.
+KEYWORDS = {
+    "_Cilk_spawn": Keyword("cilk_spawn", "", misplaced("it begins a statement, or stands behind the = of one")),
+    "_Cilk_sync": Keyword("cilk_sync", "((void)0)", misplaced("it is a statement of its own")),
+    "_Cilk_for": Keyword("cilk_for", "for", misplaced("it begins a statement in a function")),
+    "_Cilk_scope": Keyword("cilk_scope", "", misplaced("it begins a statement in a function")),
+    "_Cilk_reducer": Keyword("cilk_reducer", "", OPENCILK),
+    "_Hyperobject": Keyword("_Hyperobject", "", OPENCILK),
+}
+ANY_KEYWORD = re.compile(rf"\b(?:{'|'.join(KEYWORDS)})\b")
+# Options with which clang reads the user's text as the serial elision.
+ELISION = [f"-D{word}{'(...)' if word == '_Cilk_reducer' else ''}={keyword.elision}" for word, keyword in KEYWORDS.items()]
 JUMPS = {"return", "break", "continue", "goto", "co_return", "co_yield", "co_await"}
 
 
@@ -76,7 +104,11 @@ def parts(text):
 
 
 class Source:
-    """Tokens of a text, with what is asked about them: brackets, keywords, places."""
+    """Tokens of a text, with what is asked about them: brackets, keywords, places.
+
+    A column is that of the preprocessed line. The preprocessor keeps the column of a line's first token; behind a macro or several blanks the
+    columns are its own.
+    """
 
     def __init__(self, text):
         self.tokens, self.kinds, self.places = [], [], []
@@ -85,15 +117,20 @@ class Source:
         file, line, stack = "?", 1, []
         for is_system, part in parts(text):
             if is_system:
-                self.add("directive", part, file, line)
+                self.add("directive", part, file, line, 1)
                 continue
+            start = 0                                       # of the line, in the part
             for found in TOKEN.finditer(part):
                 kind, token = found.lastgroup, found.group()
                 if kind == "delimiter":
                     kind = "raw"
+                elif kind == "digraph":
+                    kind, token = "operator", DIGRAPHS[token]
                 at = len(self.tokens)
-                self.add(kind, token, file, line)
-                line += token.count("\n")
+                self.add(kind, token, file, line, found.start() - start + 1)
+                if "\n" in token:
+                    line += token.count("\n")
+                    start = found.start() + token.rindex("\n") + 1
                 if kind == "directive":
                     mark = MARK.match(token)
                     if mark:
@@ -111,7 +148,7 @@ class Source:
                             self.pairs[stack.pop()] = at
                         else:
                             stack.append(at)                # never closed: whatever is around it stays unpaired
-        self.add("end", "", file, line)
+        self.add("end", "", file, line, 1)
         after = len(self.tokens) - 1
         self.following = [0] * len(self.tokens)
         for at in range(len(self.tokens) - 1, -1, -1):
@@ -120,17 +157,17 @@ class Source:
             self.following[at] = after
         self.count = 0
 
-    def add(self, kind, token, file, line):
+    def add(self, kind, token, file, line, column):
         self.kinds.append(kind)
         self.tokens.append(token)
-        self.places.append((file, line))
+        self.places.append((file, line, column))
 
     def refuse(self, at, why):
-        raise Refused(*self.places[at], why)
+        raise Refused(*self.places[at][:2], why)
 
     def solid(self, at):
-        """The first token at or behind `at` that is one."""
-        return self.following[at]
+        """The first token at or behind `at` that is one; the end is one."""
+        return self.following[min(at, len(self.following) - 1)]
 
     def before(self, at):
         """The last token before `at` that is one, or -1."""
@@ -201,16 +238,14 @@ class Source:
         self.count += 1
         return f"cilkcheck_{self.count}_"
 
-    def mark(self, at):
-        """A line mark for what follows: the token at `at`."""
-        file, line = self.places[at]
+    def line_mark(self, at):
+        """Behind it begins the line of the token."""
+        file, line, _ = self.places[at]
         return f'\n# {line} "{file}"\n'
 
-    def in_step(self, text, begin, end):
-        """The text that stands for the tokens, followed by a line mark where it has more or fewer lines than they."""
-        if text.count("\n") == self.text(begin, end).count("\n") and not any(self.kinds[at] == "directive" for at in range(begin, end)):
-            return text
-        return text + self.mark(min(end, len(self.tokens) - 1))
+    def back_to(self, at):
+        """What comes before the token, so that the compiler sees it at its line and column."""
+        return self.line_mark(at) + " " * (self.places[at][2] - 1)
 
 
 def assembly(text):

@@ -1,61 +1,122 @@
-"""cilk_spawn, in C and in C++.
+"""cilk_spawn. The user's own statement stays, between a mark and its end:
 
-C: the arguments are put into variables by the spawner, then the child begins, calls, and writes the result.
+    C:    { __cilkcheck_mark_spawn(1, "f", 0); y = f(x); __cilkcheck_mark_spawned(1); }
+    C++:  { __cilkcheck_spawn s("f", 0); y = f(x); }
 
-C++: the statement becomes the body of a lambda, and the child begins when the callee is entered (runtime/spawns.c). So arguments and
-parameters are made by the spawner, by the language's own rules, and the lambda's frame holds the temporaries. The runtime knows the callee by
-its name. Where the arguments contain no call, it may also be a function object or a function that a pointer leads to.
+The compiler pass (pass/spawns.cpp) finds the spawned call between the two, and begins the child directly before it. So the spawner reads the callee
+and makes the arguments. The call and what the statement does behind it are the child's: the conversion of the result, an assignment or
+initialization, the destructors of temporaries. So is the read of `y` in `y += cilk_spawn f(x)`, which clang makes behind the call.
+
+The compiler computes the place of `p[i] = f(x)` behind the call as well, and in Cilk it is the spawner's to compute. It gets a name before the call:
+`auto &&place = (p[i]); place = f(x);`. What ends in members keeps them, since the last may be a bit-field, which nothing refers to.
+
+A spawn of what is no call, `cilk_spawn a[0] = g(1);`, is a spawned block, as in OpenCilk.
 """
-import re
 from dataclasses import dataclass
 
 ASSIGNMENTS = {"=", "+=", "-=", "*=", "/=", "%=", "&=", "|=", "^=", "<<=", ">>="}
-BY_NAME, BY_NAME_OR_OBJECT = 0, 1
-NO_CALL = {"sizeof", "alignof", "_Alignof", "__alignof__", "decltype", "__typeof__", "typeof", "noexcept", "if", "while", "for", "switch",
-           "static_cast", "const_cast", "reinterpret_cast", "dynamic_cast", "__builtin_offsetof", "return"}
+SPAWNABLE = {"if", "while", "for", "switch", "do", "try", "_Cilk_for", "_Cilk_scope"}
+# What a declaration may begin with, beside the name of a type.
+SPECIFIERS = {"auto", "const", "volatile", "static", "register", "extern", "thread_local", "_Thread_local", "__thread", "constexpr", "constinit", "inline",
+              "struct", "union", "enum", "class", "typename", "decltype", "typeof", "typeof_unqual", "__typeof__", "__typeof", "__auto_type", "_Atomic",
+              "void", "bool", "_Bool", "char", "short", "int", "long", "float", "double", "signed", "unsigned", "_Complex", "__complex__", "__int128",
+              "_BitInt", "_Float16", "__float128", "wchar_t", "char8_t", "char16_t", "char32_t", "__signed__", "__const", "__volatile__"}
+ATTRIBUTES = {"__attribute__", "__attribute", "alignas", "_Alignas", "__extension__"}
+NO_CALL = SPECIFIERS | {"static_cast", "const_cast", "reinterpret_cast", "dynamic_cast", "sizeof", "alignof", "_Alignof", "__alignof__", "noexcept", "typeid"}
+# What the pass is told of the statement: what may be called behind the spawned call, beside destructors.
+NOTHING, ASSIGNED, BOUND = 0, 1, 2
+NAMELESS = "operator()"                                     # the call of an object, or through a pointer
 
 
 @dataclass
 class Call:
-    """A call: where its callee, its parenthesis and each argument stand."""
-    callee: tuple
-    opening: int
-    closing: int
-    arguments: list
+    """`name`: the base name of what is called, or NAMELESS; `end`: the token behind its `)`."""
+    name: str
+    end: int
 
 
 def statement(rewriter, begin, keyword, context):
-    """The statement that begins at `begin`, with its cilk_spawn at `keyword`."""
+    """The statement that begins at `begin`, with its cilk_spawn at `keyword`: its text, and where the next begins."""
     source = rewriter.source
     first = source.solid(keyword + 1)
     if source.tokens[first] == "{":
         if begin != keyword:
             source.refuse(keyword, "a spawned block has no value")
-        return block(rewriter, keyword, first)
+        end = source.closing(first) + 1
+        return outlined(rewriter, keyword, first, end, "a spawned block", None), end
+    if begin == keyword and source.kinds[first] == "name" and source.tokens[first] in SPAWNABLE:
+        from .loops import statement_end
+        end = statement_end(rewriter, first)
+        return outlined(rewriter, keyword, first, end, "a spawned statement", None), end
     semicolon = source.semicolon(first)
-    if source.has(first, semicolon) and rewriter.top_level(first, semicolon, "_Cilk_spawn") is not None:
+    if rewriter.top_level(first, semicolon, "_Cilk_spawn") is not None:
         source.refuse(keyword, "a cilk_spawn in a cilk_spawn")
-    call = read_call(source, keyword, first, semicolon)
-    target = declared = operator = None
-    if begin != keyword:
+    call = read_call(rewriter, first, semicolon)
+    if begin == keyword and (call is None or call.end != semicolon):
+        equals = next((at for at in outside_brackets(source, first, semicolon) if source.tokens[at] == "="), None)
+        if equals is not None and is_declaration(rewriter, first, equals):
+            source.refuse(keyword, "a cilk_spawn before a declaration: write it behind the =, T x = cilk_spawn f(..)")
+        return outlined(rewriter, keyword, first, semicolon + 1, "a spawned statement", None), semicolon + 1
+    declares = begin != keyword and check_left(rewriter, begin, keyword)
+    if call and declares and source.tokens[call.end] == ",":
+        source.refuse(keyword, "a declarator behind that of a cilk_spawn: declare it in a statement of its own")
+    if call is None or call.end != semicolon:
+        source.refuse(keyword, "cilk_spawn of what is no call")
+    form = NOTHING if begin == keyword else ASSIGNED
+    if declares and rewriter.cxx and source.tokens[source.before(source.before(keyword))] == "]" and "auto" in source.words(begin, keyword):
+        form = BOUND
+        if call.name == "get":
+            source.refuse(keyword, "a cilk_spawn of a get whose result is taken apart: declare auto x = cilk_spawn .. first")
+    before, place, left = "", "", source.back_to(begin)
+    if declares:
+        left += rewriter.expression(begin, keyword, context)
+    elif form:
         equals = source.before(keyword)
-        operator = source.tokens[equals]
-        if operator not in ASSIGNMENTS:
-            source.refuse(keyword, "cilk_spawn stands where it may not: it begins a statement, or stands behind the = of one")
-        if any(word in ASSIGNMENTS for word in outside_brackets(source, begin, equals)):
-            source.refuse(keyword, "a cilk_spawn behind a second =")
-        if "," in outside_brackets(source, begin, equals) and not is_declaration(source, begin, equals, rewriter.cxx):
-            source.refuse(keyword, "a cilk_spawn behind a comma")
-        if operator == "=" and is_declaration(source, begin, equals, rewriter.cxx):
-            declared = begin, equals
-        else:
-            target = begin, equals
-    make = in_cxx if rewriter.cxx else in_c
-    return make(rewriter, call, target, declared, operator, keyword, context), semicolon + 1
+        before, place, left = target(rewriter, begin, equals, context)
+        left += source.back_to(equals) + source.text(equals, keyword)
+    statement = left + " " * len("cilk_spawn") + rewriter.expression(keyword + 1, semicolon + 1, context)
+    return before + marked(rewriter, keyword, call.name, form, statement, place, declares) + ("}" if before else ""), semicolon + 1
+
+
+def marked(rewriter, keyword, name, form, statement, place="", declares=False):
+    """The statement between the mark of a spawn, which is at the keyword's place, and its end. A declaration gets no block. `place`: what is assigned
+    to; so the pass knows a variable from a temporary."""
+    source = rewriter.source
+    mark = source.back_to(keyword)
+    if rewriter.cxx:
+        made = source.fresh()
+        place = f", {place}" if place else ""
+        begin, end = f'{mark}__cilkcheck_spawn {made}("{name}", {form}{place});', f"{made}.left();" if declares else ""
+    else:
+        rewriter.spawns += 1
+        begin = f'{mark}__cilkcheck_mark_spawn({rewriter.spawns}, "{name}", {form}, {place or 0});'
+        end = f"__cilkcheck_mark_spawned({rewriter.spawns});"
+    return f"{begin}{statement} {end}" if declares else f"{{{begin}{statement} {end}}}"
+
+
+# ---- what stands before the keyword ----
+
+def check_left(rewriter, begin, keyword):
+    """Whether `T x =` stands before the keyword. Refused is what is neither that nor `x =`."""
+    source, equals = rewriter.source, rewriter.source.before(keyword)
+    if source.tokens[equals] not in ASSIGNMENTS or equals <= begin:
+        source.refuse(keyword, "cilk_spawn stands where it may not: it begins a statement, or stands behind the = of one")
+    outside = words_outside(source, begin, equals)
+    if source.tokens[equals] == "=" and is_declaration(rewriter, begin, equals):
+        if {"static", "thread_local", "_Thread_local", "__thread"} & set(outside):
+            source.refuse(keyword, "a cilk_spawn for a variable that is initialized once: assign to it")
+        return True
+    if any(word in ASSIGNMENTS for word in outside):
+        source.refuse(keyword, "a cilk_spawn behind a second =")
+    if "," in outside:
+        source.refuse(keyword, "a cilk_spawn behind a comma")
+    if {"?", "&&", "||"} & set(outside):
+        source.refuse(keyword, "a cilk_spawn that ?:, && or || decide on: write an if")
+    return False
 
 
 def outside_brackets(source, begin, end):
-    """The words that stand in no bracket; < and > are brackets where a > follows."""
+    """The tokens that stand in no bracket; < and > are brackets where a > follows."""
     out, at, angles = [], begin, 0
     closed = any(token in (">", ">>") for token in source.tokens[begin:end])
     while at < end:
@@ -65,205 +126,188 @@ def outside_brackets(source, begin, end):
         elif token in ("<", ">", ">>") and closed:
             angles += {"<": 1, ">": -1, ">>": -2}[token]
         elif source.kinds[at] not in ("space", "directive") and angles <= 0:
-            out.append(token)
+            out.append(at)
         at += 1
     return out
 
 
-def is_declaration(source, begin, equals, cxx):
-    """Whether `T y` stands before the =; then y is its last name. An expression never has a name directly behind a name, > or *."""
-    words = source.words(begin, equals)
-    if len(words) < 2 or not re.match(r"[A-Za-z_]", words[0]) and words[0] != "::":
-        return False
-    if not re.match(r"[A-Za-z_]\w*$", words[-1]):
-        return False
-    before = words[-2]
-    if re.match(r"[A-Za-z_]\w*$", before):
+def words_outside(source, begin, end):
+    return [source.tokens[at] for at in outside_brackets(source, begin, end)]
+
+
+def is_declaration(rewriter, begin, equals):
+    """Whether a declarator stands before the =. `T (*x)` could be a call as well: as a declaration it gets no block, and no place before the call."""
+    source, at = rewriter.source, begin
+    while source.tokens[at] in ATTRIBUTES or source.tokens[at] == "[" and source.tokens[source.solid(at + 1)] == "[":
+        opening = at if source.tokens[at] == "[" else source.solid(at + 1)
+        at = source.solid(source.closing(opening) + 1) if source.tokens[opening] in ("(", "[") else opening
+    if source.kinds[at] == "name" and source.tokens[at] in SPECIFIERS:
         return True
-    if before in ("*", "&", "&&", ">"):
-        return not any(word in (".", "->", "+", "-", "/", "==", "!") for word in words)
-    return False
+    _, at = qualified(rewriter, at, equals)
+    if at is None or at >= equals:
+        return False
+    if source.kinds[at] == "name" or source.tokens[at] in ("*", "&", "&&"):
+        return True
+    return source.tokens[at] == "(" and source.tokens[source.solid(at + 1)] in ("*", "&", "&&")
 
 
-def read_call(source, keyword, begin, end):
-    """The call that the tokens are; refused where they are none."""
-    last = source.before(end)
-    if last < begin or source.tokens[last] != ")":
-        source.refuse(keyword, "cilk_spawn of what is no call")
-    opening = next((at for at in range(last - 1, begin - 1, -1) if source.pairs.get(at) == last), None)
-    if opening is None or not source.words(begin, opening):
-        source.refuse(keyword, "cilk_spawn of what is no call")
-    previous = source.before(opening)
-    if source.kinds[previous] == "operator" and source.tokens[previous] not in (")", "]", ">", "}"):
-        source.refuse(keyword, "cilk_spawn of what is no call")
-    outside = outside_brackets(source, begin, opening)
-    if any(word in ("+", "-", "/", "?", ",", "=", "==", "&&", "||", "|", "^", "%", "<<") or word in ASSIGNMENTS for word in outside) or outside[:1] == ["!"]:
-        source.refuse(keyword, "cilk_spawn of what is no call")
-    arguments = [part for part in source.split(opening + 1, last, ",") if source.words(*part)]
-    return Call((begin, opening), opening, last, arguments)
-
-
-# ---- C ----
-
-def in_c(rewriter, call, target, declared, operator, keyword, context):
+def target(rewriter, begin, equals, context):
+    """What is assigned to, as (text before, place, text): `{ auto &&place = (p[i]);`, `place`, `place`. A variable and its members need no text before."""
     source = rewriter.source
-    before, names, given = [], [], []
-    words = source.words(*call.callee)
-    if len(words) == 1:
-        function = words[0]
-    else:
-        function = source.fresh()
-        before.append(f"__extension__ __auto_type {function} = ({source.inner(*call.callee)});")
-        given.append(function)
-    for part in call.arguments:
-        solids = source.solids(*part)
-        if len(solids) == 1 and source.kinds[solids[0]] != "name":      # a literal
-            names.append(source.inner(*part))
+    first, last = begin, source.before(equals)
+    while source.tokens[first] == "(" and source.pairs.get(first) == last:
+        first, last = source.solid(first + 1), source.before(last)
+    solids = source.solids(first, last + 1)
+    members = len(solids)                                   # .a.b or ->a.b at the end
+    while members >= 3 and source.kinds[solids[members - 1]] == "name" and source.tokens[solids[members - 2]] in (".", "->"):
+        members -= 2
+        if source.tokens[solids[members]] == "->":
+            break
+    end = solids[members] if members < len(solids) else last + 1
+    through = members < len(solids) and source.tokens[end] == "->"
+    words = source.words(first, end)
+    if words == ["this"]:
+        return "", "", source.back_to(begin) + source.text(begin, equals)
+    if not through and all(word == "::" or word[0].isalpha() or word[0] in "_$" for word in words):
+        variable = "".join(words)
+        return "", variable if rewriter.cxx else f"&{variable}", source.back_to(begin) + source.text(begin, equals)
+    place = source.fresh()
+    object_ = source.back_to(first) + rewriter.expression(first, end, context)
+    rest = source.back_to(end) + source.text(end, last + 1) if members < len(solids) else ""
+    if rewriter.cxx:
+        if through:
+            rest = source.back_to(end) + ". " + source.text(end + 1, last + 1)
+        return f"{{auto &&{place} = {'*' if through else ''}({object_}); ", f"{place}, __cilkcheck_temporary<__decltype({place})>::bytes", f"{place}{rest}"
+    if through:
+        return f"{{__auto_type {place} = ({object_}); ", place, f"{place}{rest}"
+    return f"{{__auto_type {place} = &({object_}); ", place, f"(*{place}){rest}"
+
+
+# ---- the call ----
+
+def qualified(rewriter, at, end):
+    """A name with its qualification and template arguments: the base name's token, and the token behind it; (None, None) where none begins."""
+    source, base = rewriter.source, None
+    if source.tokens[at] == "::":
+        at = source.solid(at + 1)
+    while at < end and source.kinds[at] == "name":
+        if source.tokens[at] in ("typename", "template"):
+            at = source.solid(at + 1)
             continue
-        name = source.fresh()
-        member = len(solids) > 1 and source.tokens[solids[-2]] in (".", "->")     # it may be a bit-field, which has no type of its own
-        before.append(f"__extension__ __auto_type {name} = ({'(void)0, ' if member else ''}{argument(rewriter, part, context)});")
-        names.append(name)
-        given.append(name)
-    called = f"{function}({', '.join(names)})"
-    if given:                                               # structures that the call puts on the stack: the child's
-        bytes_ = " + ".join(f"(sizeof({name}) > 16 ? (sizeof({name}) + 7) / 8 * 8 : 0)" for name in given)
-        before.append(f"if ({bytes_}) __cilkcheck_argument_bytes({bytes_});")
-    shared = "".join(f", {name}" for name in given)
-    start = " ".join(before)
-    if "\n" in start:
-        start += source.mark(keyword)
-    if declared:
-        begin, equals = declared
-        name = source.words(begin, equals)[-1]
-        text = f"{start} {source.text(begin, equals)}= (__cilkcheck_child_begin((void *)&{name}{shared}), {called}); __cilkcheck_wrote((void *)&{name}, sizeof {name});"
-        return text + lives_end(rewriter, given) + " __cilkcheck_child_end();"
-    if target:
-        place = source.fresh()
-        value = source.inner(*target)
-        result = source.fresh()
-        text = (f"{{ {start} __typeof__({value}) *{place} = &({value}); __cilkcheck_child_begin((void *){place}{shared});"
-                f" __extension__ __auto_type {result} = {called}; *{place} {operator} {result}; __cilkcheck_end_life(&{result}, sizeof {result});"
-                f" __cilkcheck_wrote((void *){place}, sizeof *{place});")
-        return text + lives_end(rewriter, [*given, place]) + " __cilkcheck_child_end(); }"
-    result = source.fresh()
-    void = f"__builtin_types_compatible_p(__typeof__({called}), void)"
-    text = (f"{{ {start} __cilkcheck_child_begin((void *)0{shared});"
-            f" __typeof__(__builtin_choose_expr({void}, (char)0, {called})) {result} = __builtin_choose_expr({void}, ({called}, (char)0), {called});"
-            f" __cilkcheck_end_life(&{result}, sizeof {result});")
-    return text + lives_end(rewriter, given) + " __cilkcheck_child_end(); }"
+        base, at = at, source.solid(at + 1)
+        if source.tokens[at] == "<" and rewriter.cxx:
+            behind = behind_arguments(source, at, end)
+            if behind is None:
+                return base, at
+            at = behind
+        if source.tokens[at] != "::":
+            return base, at
+        at = source.solid(at + 1)
+        if source.tokens[at] == "*":                        # T::*member
+            return base, at
+    return None, None
 
 
-def lives_end(rewriter, names):
-    """clang tells the child's reads of these variables, which the next child's spawner writes anew: another location each time. (gcc tells of no local
-    whose address nobody takes.)"""
-    return "".join(f" __cilkcheck_end_life(&{name}, sizeof {name});" for name in names) if rewriter.tells_all_locals else ""
+def behind_arguments(source, at, end):
+    """The token behind template arguments, or None where the < is an operator."""
+    depth = 0
+    while at < end:
+        token = source.tokens[at]
+        if source.kinds[at] == "operator" and token in ("(", "[", "{"):
+            at = source.closing(at)
+        elif token in ("&&", "||") and depth == 1 and source.tokens[source.solid(at + 1)] not in (">", ",", "..."):
+            return None
+        else:
+            depth += {"<": 1, ">": -1, ">>": -2}.get(token, 0)
+        at = source.solid(at + 1)
+        if depth <= 0:
+            return at
+    return None
 
 
-def argument(rewriter, part, context):
+def read_call(rewriter, at, end):
+    """The call that begins there, as far as it is a postfix expression, or None."""
+    source, name, call = rewriter.source, NAMELESS, None
+    token, kind = source.tokens[at], source.kinds[at]
+    if kind == "name" and token == "operator":
+        name, at = operator_name(source, at, end)
+    elif kind == "name" and token not in ("this", "sizeof", "new", "delete", "throw", "co_await", "co_yield") or token == "::":
+        base, at = qualified(rewriter, at, end)
+        name = source.tokens[base] if base is not None else NAMELESS
+    elif token == "this":
+        at = source.solid(at + 1)
+    elif token == "(":
+        inner = source.solids(at + 1, source.closing(at))
+        if len(inner) == 1 and source.kinds[inner[0]] == "name":
+            name = source.tokens[inner[0]]
+        at = source.solid(source.closing(at) + 1)
+    elif token == "[" and rewriter.cxx:
+        opening = rewriter.lambda_body(at, end)
+        at = source.solid(source.closing(opening) + 1) if opening is not None else None
+    else:
+        return None
+    while at is not None and at < end:
+        token = source.tokens[at]
+        if token == "(":
+            at = source.solid(source.closing(at) + 1)
+            call, name = None if name in NO_CALL else Call(name, at), NAMELESS
+        elif token == "[" or token == "{" and rewriter.cxx:
+            at, call, name = source.solid(source.closing(at) + 1), None, NAMELESS
+        elif token in (".", "->"):
+            name, at = member_name(rewriter, source.solid(at + 1), end)
+            call = None
+        else:
+            break
+    return call
+
+
+def member_name(rewriter, at, end):
     source = rewriter.source
-    text = rewriter.expression(*part, context)
-    return "\n" + text + "\n" if any(source.kinds[at] == "directive" for at in range(*part)) else text.strip(" \t")
+    if source.tokens[at] == "template":
+        at = source.solid(at + 1)
+    if source.tokens[at] == "operator":
+        return operator_name(source, at, end)
+    if source.tokens[at] == "~":
+        base, behind = qualified(rewriter, source.solid(at + 1), end)
+        return "~" + source.tokens[base] if base is not None else NAMELESS, behind
+    base, behind = qualified(rewriter, at, end)
+    return source.tokens[base] if base is not None else NAMELESS, behind
 
 
-# ---- C++ ----
-
-def in_cxx(rewriter, call, target, declared, operator, keyword, context):
-    source = rewriter.source
-    hoisted, callee, name, rule = cxx_callee(rewriter, call, context)
-    arguments = rewriter.expression(call.opening, call.closing + 1, context)
-    called = callee + arguments
-    child = f'__cilkcheck_child("{name}", {rule})'
-    if declared:
-        begin, equals = declared
-        variable = source.words(begin, equals)[-1]
-        reference = any(word in ("&", "&&") for word in outside_brackets(source, begin, equals))
-        result = "" if rewriter.before_cxx14 else " -> decltype(auto)"
-        share = "" if reference else f" __cilkcheck_share(0, __builtin_addressof({variable}));"
-        guard = source.fresh()                              # it lives until the variable is written
-        return (f'__cilkcheck_child {guard}("{name}", {rule}); {source.text(begin, equals)}= static_cast<__cilkcheck_child &&>({guard}) % [&](){result} '
-                f"{{ {hoisted}return {called}; }}; {guard}.left();{share}")
-    inside = called
-    if target:
-        place = source.fresh()
-        value = rewriter.expression(*target, context).strip()
-        hoisted = f"auto &&{place} = ({value}); " + hoisted
-        result = source.fresh()
-        inside = f"auto &&{result} = {called}; __cilkcheck_child_called(); {place} {operator} static_cast<decltype({result})>({result})"
-    return f"{child} % [&]() -> void {{ {hoisted}{inside}; }};"
-
-
-def cxx_callee(rewriter, call, context):
-    """What to do before the call, the callee's text, its name for the runtime, and the rule by which it is known."""
-    source = rewriter.source
-    begin, end = call.callee
-    calls = has_call(source, call.opening + 1, call.closing)
-    name_at = callee_name(source, begin, end)
-    if name_at is None:                                     # an expression: an object, or a pointer to a function
-        if calls:
-            source.refuse(begin, "cilk_spawn of a function object or pointer whose arguments contain a call: put the call's result into a variable first")
-        variable = source.fresh()
-        return f"auto &&{variable} = ({rewriter.expression(begin, end, context).strip()}); ", variable, "operator()", BY_NAME_OR_OBJECT
-    name = source.tokens[name_at]
-    calls = calls or has_call(source, begin, name_at)
-    if calls and (source.contains(begin, name_at, name) or source.contains(call.opening, call.closing, name)):
-        source.refuse(begin, f"cilk_spawn {name}: an argument may call a {name} too: put its value into a variable first")
-    return "", rewriter.expression(begin, end, context).lstrip(), name, BY_NAME if calls else BY_NAME_OR_OBJECT
-
-
-def callee_name(source, begin, end):
-    """The name that is called: f, A::f, f<T>, x.f, x->f, or None."""
-    at = source.before(end)
-    if source.tokens[at] == ">":                            # template arguments
-        depth = 0
-        while at >= begin:
-            depth += (source.tokens[at] == ">") + 2 * (source.tokens[at] == ">>") - (source.tokens[at] == "<")
-            at = source.before(at)
-            if depth == 0:
-                break
-    return at if at >= begin and source.kinds[at] == "name" and source.tokens[at] != "this" else None
-
-
-def has_call(source, begin, end):
-    """Whether the tokens may contain the call of a named function, a function object or a lambda."""
-    for at in range(begin, end):
-        if source.tokens[at] == "(" and source.kinds[at] == "operator":
-            previous = source.before(at)
-            if previous < begin:
-                continue
-            word = source.tokens[previous]
-            if source.kinds[previous] == "name" and word not in NO_CALL or word in (")", "]", "}", ">"):
-                return True
-    return False
+def operator_name(source, at, end):
+    """`operator+`, as a demangler writes it, and the token behind it. A conversion is none: its type would have to be read."""
+    first = at = source.solid(at + 1)
+    if source.kinds[at] != "operator":
+        return NAMELESS, None
+    if source.tokens[at] in ("(", "["):
+        at = source.solid(source.closing(at) + 1)
+    else:
+        while at < end and source.kinds[at] == "operator" and source.tokens[at] != "(":
+            at = source.solid(at + 1)
+    return "operator" + "".join(source.words(first, at)), at
 
 
 # ---- blocks ----
 
-def block(rewriter, keyword, opening):
-    source, close = rewriter.source, rewriter.source.closing(opening)
-    text = outlined(rewriter, keyword, opening, close + 1, "a spawned block", None)
-    return text, close + 1
-
-
 def outlined(rewriter, keyword, begin, end, what, variable):
-    """The statement as a child: in C an OpenMP task, in C++ a lambda. `variable` is the loop's: each round has its own. The spawn's place is the
-    keyword's."""
-    from . import openmp
+    """The statement as a child: in C an OpenMP task, in C++ the call of a lambda. `variable` is the loop's: each round has its own. The spawn's place is
+    the keyword's."""
     from .rewrite import Context
     source = rewriter.source
     labels = frozenset(source.tokens[at] for at in range(begin, end) if source.kinds[at] == "name" and source.tokens[source.solid(at + 1)] == ":")
     context = Context(syncs=False, outlined=what, breaks=False, continues=variable is not None, labels=labels)
-    body, behind = rewriter.statement(begin, context)
+    body, _ = rewriter.statement(begin, context)
+    body = source.back_to(begin) + body
     if source.contains(begin, end, "_Cilk_spawn"):          # its implied sync, before its locals end
-        body = (body[:body.rindex("}")] if source.tokens[begin] == "{" else "{ " + body + " ") + "__cilkcheck_sync(); }"
+        last = source.before(end)
+        body = "{" + body + source.back_to(last) + "__cilkcheck_mark_sync(); }" if source.tokens[begin] != "{" else \
+            body[:body.rindex("}")] + "__cilkcheck_mark_sync(); }"
     if source.contains(begin, end, "continue"):
         once = source.fresh()
         body = f"for (int {once} = 1; {once}; {once} = 0) {body}"
-    body = source.in_step(body, begin, end)
     if rewriter.cxx:
         captured = f"&, {variable}" if variable else "&"
-        use = f"(void){variable}; " if variable else ""
-        return f"{source.mark(keyword)}__cilkcheck_child(0, 0) % [{captured}]() mutable -> void {{{source.mark(begin)}{use}{body} }};"
+        return marked(rewriter, keyword, NAMELESS, NOTHING, f"[{captured}]() mutable -> void {{ {body} }}();")
     clauses = f" firstprivate({variable})" if variable else ""
-    clauses += openmp.SHARES if rewriter.copies_into_tasks else ""
-    return f"{{ __cilkcheck_outlined();{source.mark(keyword)}#pragma omp task default(shared){clauses}{source.mark(begin)}{body}{source.mark(keyword)}}}"
+    return (f"{{{source.back_to(keyword)}__cilkcheck_mark_outlined();{source.line_mark(keyword)}"
+            f"#pragma omp task default(shared){clauses}{source.line_mark(begin)}{body}{source.line_mark(source.before(end))}}}")

@@ -11,17 +11,21 @@
 #define CILKCHECK_PUT 2
 #define CILKCHECK_GET 3
 #define CILKCHECK_UNMADE 4
-#ifdef __CILKCHECK__
+#if defined __CILKCHECK__ && !defined __CILKCHECK_ELISION__
+#define CILKCHECK_RECORDED
+#endif
+#ifdef CILKCHECK_RECORDED
 #ifdef __cplusplus
 extern "C" {
 #endif
-extern void __cilkcheck_reducer(void *key, int operation, void *view, size_t bytes);
-extern void __cilkcheck_hide(int on);
+/* Marks, as the rewriter's (calls.h). */
+extern void __cilkcheck_mark_reducer(void *key, int operation, void *view, size_t bytes) __attribute__((nothrow));
+extern void __cilkcheck_mark_hide(int on) __attribute__((nothrow));
 #ifdef __cplusplus
 }
 #endif
-#define CILKCHECK_REDUCER(key, operation, view, bytes) __cilkcheck_reducer((void *)(key), operation, (void *)(view), bytes)
-#define CILKCHECK_HIDE(on) __cilkcheck_hide(on)
+#define CILKCHECK_REDUCER(key, operation, view, bytes) __cilkcheck_mark_reducer((void *)(key), operation, (void *)(view), bytes)
+#define CILKCHECK_HIDE(on) __cilkcheck_mark_hide(on)
 #else
 #define CILKCHECK_REDUCER(key, operation, view, bytes) ((void)0)
 #define CILKCHECK_HIDE(on) ((void)0)
@@ -30,7 +34,7 @@ extern void __cilkcheck_hide(int on);
 /* ---- C ---- */
 
 /* The value of a reducer of C is used through REDUCER_VIEW alone; recorded, it has no member `value`, so that no access of it is missed. */
-#ifdef __CILKCHECK__
+#ifdef CILKCHECK_RECORDED
 #define CILKCHECK_VALUE cilkcheck_view
 #else
 #define CILKCHECK_VALUE value
@@ -75,8 +79,7 @@ typedef long double __cilkcheck_c_longdouble;
 #ifdef __cplusplus
 #include <new>
 #include <utility>
-/* Inlined, so that the line of an access is the user's. */
-#define CILKCHECK_INLINE __attribute__((always_inline)) inline
+#define CILKCHECK_INLINE inline
 
 namespace cilk {
 /* While one lives, accesses are not looked at: the work of a view on memory of its own. */

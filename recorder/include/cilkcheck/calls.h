@@ -1,12 +1,9 @@
-/* What rewritten C calls (runtime/abi.h). The rewriter puts this text, which no preprocessor reads, before the program's. */
-extern void __cilkcheck_child_begin(void *, ...);
-extern void __cilkcheck_child_end(void);
-extern void __cilkcheck_sync(void);
-extern void __cilkcheck_sync_left(void *);
-extern void __cilkcheck_scope_begin(void);
-extern void __cilkcheck_scope_left(void *);
-extern void __cilkcheck_argument_bytes(unsigned long);
-extern void __cilkcheck_wrote(void *, unsigned long);
-extern void __cilkcheck_end_life(const volatile void *, unsigned long);
-extern void __cilkcheck_outlined(void);
-extern char __cilkcheck_task;
+/* What the rewriter writes in C: marks, which the compiler pass (pass/spawns.cpp) turns into calls of the runtime. The rewriter puts this text,
+   which no preprocessor reads, before the program's. */
+extern void __cilkcheck_mark_spawn(int, const char *, int, const volatile void *);
+extern void __cilkcheck_mark_spawned(int);
+extern void __cilkcheck_mark_sync(void);
+extern void __cilkcheck_mark_sync_left(void *);
+extern void __cilkcheck_mark_scope_begin(void);
+extern void __cilkcheck_mark_scope_left(void *);
+extern void __cilkcheck_mark_outlined(void);

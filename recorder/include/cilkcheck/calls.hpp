@@ -1,39 +1,25 @@
-/* What rewritten C++ calls (runtime/abi.h). The rewriter puts this text, which no preprocessor reads, before the program's.
-   Constructors and destructors are the runtime's (spawns.c), so that they return to the user's line. */
-extern "C" {
-void __cilkcheck_child_closure(void *, const void *, unsigned long);
-void __cilkcheck_child_called(void);
-void __cilkcheck_sync(void);
-void __cilkcheck_share(int, ...);
-extern char __cilkcheck_task;
-}
-/* A child, from the entry of its function to the end of the object, or to `left`. */
-struct __cilkcheck_child {
-  void *state[7];
-  __cilkcheck_child(const char *callee, int rule);
-  void left() noexcept;
-  ~__cilkcheck_child() noexcept;
-  __cilkcheck_child(const __cilkcheck_child &) = delete;
+/* What the rewriter writes in C++: marks, which the compiler pass (pass/spawns.cpp) turns into calls of the runtime. The rewriter puts this text,
+   which no preprocessor reads, before the program's. It is C++98. */
+extern "C" void __cilkcheck_mark_sync() __attribute__((nothrow));
+/* The bytes of what a reference refers to, where that is a temporary of its own. */
+template <class T> struct __cilkcheck_temporary { static const unsigned long bytes = 0; };
+template <class T> struct __cilkcheck_temporary<T &&> { static const unsigned long bytes = sizeof(T); };
+template <class T> struct __cilkcheck_temporary<T &> { static const unsigned long bytes = 0; };
+/* A spawn, from before its arguments to the end of its statement, or to `left`. The pass finds the call in between by its base name. `place` is what
+   the statement assigns to; a bit-field gives a copy. */
+struct __cilkcheck_spawn {
+  void *state;
+  __cilkcheck_spawn(const char *callee, int form) __attribute__((nothrow));
+  template <class T> __cilkcheck_spawn(const char *callee, int form, const T &place, unsigned long bytes = 0) __attribute__((nothrow));
+  void left() __attribute__((nothrow));
+  ~__cilkcheck_spawn() __attribute__((nothrow));
 };
-struct __cilkcheck_called {
-  __attribute__((no_sanitize_thread, disable_sanitizer_instrumentation)) ~__cilkcheck_called() noexcept { __cilkcheck_child_called(); }
-};
-/* Runs the lambda. It is no function of the program: the runtime counts those that are instrumented. */
-template <class F> __attribute__((noinline, no_sanitize_thread, disable_sanitizer_instrumentation))
-auto operator%(__cilkcheck_child &&child, F &&function) -> decltype(function()) {
-  __cilkcheck_child_closure(&child, __builtin_addressof(function), sizeof function);
-  __cilkcheck_called called;
-  return function();
-}
 /* A block of children of its own. */
 struct __cilkcheck_scope {
-  __cilkcheck_scope();
-  ~__cilkcheck_scope() noexcept;
-  __cilkcheck_scope(const __cilkcheck_scope &) = delete;
+  __cilkcheck_scope() __attribute__((nothrow));
+  ~__cilkcheck_scope() __attribute__((nothrow));
 };
 /* Stands before a return: the function syncs when the value is computed, and before its locals end. */
 struct __cilkcheck_syncs {
-  __cilkcheck_syncs() = default;
-  ~__cilkcheck_syncs() noexcept;
-  __cilkcheck_syncs(const __cilkcheck_syncs &) = delete;
+  ~__cilkcheck_syncs() __attribute__((nothrow));
 };
