@@ -139,10 +139,13 @@ class Commands:
         return self.arguments("all", "link", "debug")
 
 
+QUOTED = re.compile(r"""\\(.)|"((?:\\.|[^"\\])*)"|'((?:\\.|[^'\\])*)'""", re.S)
+
+
 def tokens(text):
-    """The arguments in a response file, by the rules of GNU: a backslash before any character stands for it, quotes join."""
-    found = re.findall(r"""((?:\\.|"(?:\\.|[^"\\])*"|'(?:\\.|[^'\\])*'|[^\s"'\\]|["'\\])+)""", text, re.S)
-    return [re.sub(r"""\\(.)|["']""", lambda it: it[1] or "", word, flags=re.S) for word in found]
+    """The arguments in a response file, by the rules of GNU: quotes join, and a backslash before any character stands for it."""
+    found = re.findall(r"""(?:\\.|"(?:\\.|[^"\\])*"|'(?:\\.|[^'\\])*'|[^\s"'\\]|["'\\])+""", text, re.S)
+    return [QUOTED.sub(lambda it: it[1] or re.sub(r"\\(.)", r"\1", it[2] or it[3] or "", flags=re.S), word) for word in found]
 
 
 def expand(arguments, within=()):

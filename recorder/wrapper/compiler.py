@@ -223,3 +223,13 @@ def flags(plugin):
 def environment():
     """What the pass reads."""
     return {**os.environ, "CILKCHECK_NAMES": str(NAMES)}
+
+
+if __name__ == "__main__":                                  # tools/install: builds and tries the pass in a folder
+    from .processes import Session
+    try:
+        with Session() as at_work:
+            Pass(found(), at_work, [Path(sys.argv[1])]).find()
+    except Failed as failed:
+        say(failed.text)
+        sys.exit(failed.status)

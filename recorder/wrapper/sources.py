@@ -18,7 +18,6 @@ MARK = b"__cilkcheck_version_"
 # clang 14 crashes on some untied tasks; to a serial run the clause means nothing
 UNTIED = re.compile(r"^([ \t]*#[ \t]*pragma[ \t]+omp[ \t]+task(?:loop)?\b.*?)\buntied\b,?", re.M)
 MESSAGE = re.compile(r"^(?P<place>[^\n:]+:\d+)(?::\d+)*: (?:fatal )?error: (?P<why>.*)$", re.M)
-REFUSAL = re.compile(r"^cilkcheck: refused: (.*)$", re.M)
 INTERNAL = re.compile(r"cilkcheck|__cxx|\.omp|\.ii?\b")
 
 
@@ -96,7 +95,7 @@ class Source:
         """The compiler on the rewritten text."""
         openmp = ["-fopenmp"] if b"#pragma omp" in text or re.search(rb"#[ \t]*pragma[ \t]+omp\b", text) else []
         language = "c++-cpp-output" if self.is_cxx else "cpp-output"
-        words = [*self.driver, *self.commands.for_compiling(), *openmp, "-w", "-g", *flags(self.plugin), "-fno-crash-diagnostics", "-fno-color-diagnostics",
+        words = [*self.driver, *self.commands.for_compiling(), *openmp, "-w", "-g", "-gdwarf-4", *flags(self.plugin), "-fno-crash-diagnostics", "-fno-color-diagnostics",
                  "-fno-caret-diagnostics", stage, "-x", language, "-", "-o", target]
         return self.start(words, text, stdout=subprocess.DEVNULL, stderr=subprocess.PIPE, env=environment())
 
@@ -121,18 +120,17 @@ class Source:
         said = child.stderr.read().decode("utf-8", "replace")
         child.stderr.close()
         if child.wait():
-            raise self.unrecorded(said)
+            raise self.unrecorded(said, child.returncode)
         if not is_marked(target):
             raise Failed(REFUSED, f"refused: {self.source.name}: the compiler left the pass out (an option keeps it from running)")
 
-    def unrecorded(self, said):
+    def unrecorded(self, said, status):
         """Why the rewritten text was not compiled, though clang takes the user's."""
-        told = REFUSAL.search(said)
-        if told:
-            return Failed(REFUSED, f"refused: {told[1]}")
         found = MESSAGE.search(said)
         if found:
-            why = found["why"] if not INTERNAL.search(found["why"]) else "this statement cannot be recorded"
+            # (the pass has its own words, clang names what the rewriter wrote)
+            is_plain = status == REFUSED or not INTERNAL.search(found["why"])
+            why = found["why"] if is_plain else "this statement cannot be recorded"
             return Failed(REFUSED, f"refused: {found['place'].removeprefix('./')}: {why}")
         lines = [it for it in said.splitlines() if "error:" in it] or said.splitlines() or ["no message"]
         if re.search(r"No space left|File too large|unable to open output|IO failure", said):

@@ -2,168 +2,291 @@
 
     python3 -m unittest discover -s recorder/wrapper/tests
 """
+import os
 import sys
+import tempfile
 import unittest
 from pathlib import Path
 
 sys.path.insert(0, str(Path(__file__).resolve().parent.parent.parent))
-from wrapper import clang_ir, gcc_structures, names  # noqa: E402
-from wrapper.command_line import Input, parse  # noqa: E402
+from wrapper import names, objects  # noqa: E402
+from wrapper.command_line import Fault, Input, expand, parse, tokens  # noqa: E402
+from wrapper.compiler import VERSION, Compiler  # noqa: E402
+from wrapper.driver import passed_on, target_of  # noqa: E402
+from wrapper.processes import Failed, Output, Session  # noqa: E402
+from wrapper.sources import Source  # noqa: E402
 
 
 class CommandLine(unittest.TestCase):
     def test_compile(self):
         commands = parse(["-c", "-O2", "-Wall", "-I", "inc", "-DX=1", "-MMD", "-MFdeps/a.d", "a.c", "-o", "out/a.o", "-std=c11"])
-        self.assertEqual((commands.mode, commands.output), ("-c", "out/a.o"))
-        self.assertEqual(commands.inputs, [Input("a.c", "c")])
-        self.assertEqual(commands.preprocess, ["-Wall", "-I", "inc", "-DX=1", "-std=c11"])
-        self.assertEqual(commands.compile, ["-Wall", "-std=c11"])
-        self.assertEqual(commands.dependencies, {"-MMD": True, "-MF": "deps/a.d"})
+        self.assertEqual((commands.mode, commands.output, commands.files()), ("-c", "out/a.o", [Input("a.c", "c")]))
+        self.assertEqual(commands.for_preprocessing(), ["-O2", "-I", "inc", "-DX=1", "-std=c11"])
+        self.assertEqual(commands.for_syntax(), ["-O2", "-Wall", "-I", "inc", "-DX=1", "-MMD", "-MFdeps/a.d", "-std=c11", "-o", "out/a.o"])
+        self.assertEqual(commands.for_compiling(), ["-O2", "-std=c11"])
+
+    def test_warnings(self):
+        commands = parse(["-Wall", "-Wno-error=int-conversion", "-Werror", "-pedantic-errors", "-w", "-c", "a.c"])
+        self.assertEqual(commands.for_compiling(), ["-Wno-error=int-conversion"])
+        self.assertEqual(commands.for_syntax(), ["-Wall", "-Wno-error=int-conversion", "-Werror", "-pedantic-errors", "-w"])
 
     def test_link_keeps_the_order(self):
-        commands = parse(["a.o", "b.c", "-Lx", "-lfoo", "c.a", "-Wl,-rpath,y", "-pthread"])
-        self.assertEqual(commands.inputs, [Input("a.o"), Input("b.c", "c"), "-lfoo", Input("c.a"), "-Wl,-rpath,y"])
-        self.assertEqual(commands.link, ["-Lx", "-pthread"])
+        commands = parse(["a.o", "b.c", "-Lx", "-lfoo", "c.a", "-Wl,-rpath,y", "-pthread", "-l", "bar"])
+        self.assertEqual(commands.inputs, [Input("a.o"), Input("b.c", "c"), ["-lfoo"], Input("c.a"), ["-Wl,-rpath,y"], ["-l", "bar"]])
+        self.assertEqual(commands.for_linking(), ["-Lx", "-pthread"])
 
     def test_languages(self):
-        commands = parse(["a.C", "b.cc", "-x", "c", "d.inc", "-xnone", "e.cpp", "f.i", "g.s"])
-        self.assertEqual([it.language for it in commands.inputs], ["c++", "c++", "c", "c++", "cpp-output", None])
+        commands = parse(["a.C", "b.cc", "-x", "c", "d.inc", "-xnone", "e.cpp", "f.i", "g.s", "h.hpp", "i.S", "j.o"])
+        self.assertEqual([it.language for it in commands.files()],
+                         ["c++", "c++", "c", "c++", "cpp-output", "assembler", "c++-header", "assembler-with-cpp", None])
+        self.assertEqual([it.given for it in commands.files()], [False, False, True] + [False] * 6)
+        self.assertEqual([it.language for it in parse(["a.c", "-x", "c", "b.c"], cxx=True).files()], ["c++", "c"])
 
-    def test_dropped(self):
-        commands = parse(["-fsanitize=address", "-flto", "-fopenmp", "-pg", "-fcilkplus", "-lcilkrts", "-D_FORTIFY_SOURCE=2", "a.c"])
-        self.assertEqual((commands.compile, commands.preprocess, commands.link, commands.inputs), ([], [], [], [Input("a.c", "c")]))
-        self.assertTrue(commands.openmp)
+    def test_of_compilers_of_cilk(self):
+        words = ["-fopencilk", "-fsanitize=cilk", "-fcilktool=cilkscale", "-ftapir=serial", "-fcilkplus", "-fdetach", "--opencilk-resource-dir=/x",
+                 "-lcilkrts", "-lopencilk", "-fno-opencilk"]
+        for mode in ("-c", "-E", "-M", "-MM", "-S", "-fsyntax-only"):
+            with self.subTest(mode=mode):
+                self.assertNotIn("cilk", " ".join(passed_on(parse([*words, mode, "a.c"]))))
 
-    def test_optimization(self):
-        self.assertIsNone(parse(["-O2", "a.c"]).keep_optimization)
-        self.assertEqual(parse(["-O2", "--cilkcheck-keep-O", "a.c"]).keep_optimization, "-O2")
+    def test_other_tools(self):
+        commands = parse(["-fsanitize=address", "-flto=thin", "-pg", "-fprofile-arcs", "--coverage", "-flegacy-pass-manager", "a.c"])
+        self.assertEqual((commands.options, commands.inputs), ([], [Input("a.c", "c")]))
 
-    def test_refused_and_passed(self):
-        self.assertIn("shared library", parse(["-shared", "a.o"]).refused)
-        self.assertIn("unknown option", parse(["--cilkcheck-what", "a.c"]).refused)
-        for argument in ("--version", "-E", "-M", "-MM", "-print-search-dirs", "-dumpmachine", "-fsyntax-only"):
-            self.assertEqual(parse([argument, "a.c"]).mode, "pass", argument)
+    def test_openmp(self):
+        self.assertTrue(parse(["-fopenmp", "a.c"]).openmp)
+        self.assertTrue(parse(["-fopenmp=libomp", "a.c"]).openmp)
+        self.assertFalse(parse(["-fopenmp", "-fno-openmp", "a.c"]).openmp)
+        self.assertFalse(parse(["a.c"]).openmp)
+
+    def test_level(self):
+        self.assertEqual(parse(["-O2", "a.c"]).for_compiling(), ["-O2"])
+        self.assertEqual(parse(["a.c"]).for_compiling(), [])
+
+    def test_modes(self):
+        for words, mode in ((["-c"], "-c"), (["-S", "-c"], "-S"), (["-c", "-E"], "preprocess"), (["-M"], "preprocess"), (["-MM"], "preprocess"),
+                            (["-MMD"], "link"), (["-fsyntax-only", "-c"], "syntax"), (["--analyze"], "syntax"), (["-dumpmachine"], "clang"),
+                            (["-print-search-dirs"], "clang"), (["-###", "-c"], "clang"), ([], "link"), (["--preprocess"], "preprocess")):
+            with self.subTest(words=words):
+                self.assertEqual(parse([*words, "a.c"]).mode, mode)
+
+    def test_refused(self):
+        self.assertTrue(parse(["-shared", "a.o"]).shared)
+        self.assertIn("64 bits", parse(["-m32", "a.c"]).refused)
+        with self.assertRaisesRegex(Fault, "unknown option --cilkcheck-keep-O"):
+            parse(["--cilkcheck-keep-O", "a.c"])
+        with self.assertRaisesRegex(Fault, "argument to '-o' is missing"):
+            parse(["a.c", "-o"])
+
+    def test_values(self):
+        words = ["-Xclang", "-o", "-mllvm", "-c", "-include", "x.c", "-isystem", "y.c", "-target", "z", "-u", "main"]
+        commands = parse([*words, "a.c"])
+        self.assertEqual((commands.mode, commands.output, commands.files()), ("link", None, [Input("a.c", "c")]))
+
+    def test_long_names(self):
+        commands = parse(["--compile", "--output=x.o", "--define-macro", "Y", "--language=c", "a.inc"])
+        self.assertEqual((commands.mode, commands.output, commands.files()), ("-c", "x.o", [Input("a.inc", "c", True)]))
+        self.assertEqual(commands.for_preprocessing(), ["-D", "Y"])
+
+    def test_files_behind_dashes(self):
+        commands = parse(["-c", "--", "-a.c", "-O2.c"])
+        self.assertEqual([(it.name, it.path, it.language) for it in commands.files()], [("-a.c", "./-a.c", "c"), ("-O2.c", "./-O2.c", "c")])
+        self.assertEqual(parse(["-x", "c", "-"]).files()[0].path, "-")
+
+    def test_precompiled_headers_are_not_compiled_again(self):
+        commands = parse(["-c", "-Xclang", "-include-pch", "-Xclang", "a.pch", "-Xclang", "-vectorize-loops", "-include-pch", "b.pch", "a.c"])
+        self.assertEqual(commands.for_compiling(), ["-Xclang", "-vectorize-loops"])
+        self.assertIn("a.pch", commands.for_preprocessing())
+
+    def test_what_clang_is_given(self):
+        commands = parse(["-E", "-x", "c", "a.inc", "-x", "none", "b.c", "-o", "out", "-DX"])
+        self.assertEqual(passed_on(commands), ["-E", "-DX", "-o", "out", "-x", "c", "a.inc", "-x", "none", "b.c"])
+
+    def test_names_of_outputs(self):
+        for words, name in ((["-c", "x/a.c"], "a.o"), (["-S", "a.cc"], "a.s"), (["-c", "-emit-llvm", "a.c"], "a.bc"), (["-S", "-emit-llvm", "a.c"], "a.ll"),
+                            (["-c", "-o", "y/b.o", "a.c"], "y/b.o"), (["-c", "-x", "c", "-"], "-.o")):
+            with self.subTest(words=words):
+                commands = parse(words)
+                self.assertEqual(target_of(commands, commands.files()[0]), name)
+
+
+class ResponseFiles(unittest.TestCase):
+    def test_tokens(self):
+        for text, words in (("a b\nc\t d", ["a", "b", "c", "d"]), ('"a b" c', ["a b", "c"]), ("'a \"b' c", ['a "b', "c"]), (r"a\ b \"c", ["a b", '"c']),
+                            ('-DX="1 2"', ["-DX=1 2"]), (r'"a\"b"', ['a"b']), ("", [])):
+            with self.subTest(text=text):
+                self.assertEqual(tokens(text), words)
+
+    def test_nested(self):
+        with tempfile.TemporaryDirectory() as room:
+            Path(room, "inner").write_text("-O2 'a b.c'")
+            Path(room, "outer").write_text(f"-c @{room}/inner")
+            Path(room, "self").write_text(f"-c @{room}/other")
+            Path(room, "other").write_text(f"@{room}/self")
+            self.assertEqual(expand([f"@{room}/outer", "@nothing", "x"]), ["-c", "-O2", "a b.c", "@nothing", "x"])
+            with self.assertRaisesRegex(Fault, "names itself"):
+                expand([f"@{room}/self"])
 
 
 class Names(unittest.TestCase):
-    CASES = [                                               # (as c++filt prints it, as it is told, as it is called)
-        ("fib", "fib", "fib"),
-        ("void part<int*, std::less<int> >(int*, int*)", "part", "part"),
-        ("Tree::total() const", "Tree::total", "total"),
-        ("std::vector<int, std::allocator<int> >::vector(int)", "std::vector::vector", "-"),
-        ("Tree::~Tree()", "Tree::~Tree", "-"),
-        ("std::function<void (int)>::operator()(int) const", "std::function::operator()", "operator()"),
-        ("main::{lambda(int)#1}::operator()(int) const", "main", "operator()"),
-        ("A::operator int() const", "A::operator int", "-"),
-        ("B<int>::operator<<(int)", "B::operator<<", "-"),
-        ("(anonymous namespace)::f(int)", "f", "f"),
-        ("int const& std::max<int>(int const&, int const&)", "std::max", "max"),
-        ("f(int) [clone .constprop.0]", "f", "f"),
-        ("main._omp_fn.0", "main", "main._omp_fn.0"),
+    CASES = [                                               # (as c++filt prints it, as it is told)
+        ("fib", "fib"),
+        ("void part<int*, std::less<int> >(int*, int*)", "part"),
+        ("Tree::total() const", "Tree::total"),
+        ("std::vector<int, std::allocator<int> >::vector(int)", "std::vector::vector"),
+        ("Tree::~Tree()", "Tree::~Tree"),
+        ("std::function<void (int)>::operator()(int) const", "std::function::operator()"),
+        ("main::{lambda(int)#1}::operator()(int) const", "main"),
+        ("A::operator int() const", "A::operator int"),
+        ("B<int>::operator<<(int)", "B::operator<<"),
+        ("(anonymous namespace)::f(int)", "f"),
+        ("int const& std::max<int>(int const&, int const&)", "std::max"),
     ]
 
     def test_each(self):
-        for plain, told, called in self.CASES:
+        for plain, told in self.CASES:
             with self.subTest(plain=plain):
-                self.assertEqual((names.short(plain), names.called(plain)), (told, called))
-
-    def test_parts(self):
-        for name in ("main._omp_fn.0", ".omp_outlined.", ".omp_task_entry.3", "_ZZ4mainENKUliE_clEi"):
-            self.assertTrue(names.is_part(name), name)
-        for name in ("main", "_ZN4Tree5totalEv", "omp_get_wtime"):
-            self.assertFalse(names.is_part(name), name)
+                self.assertEqual(names.short(plain), told)
 
 
-class ClangText(unittest.TestCase):
-    def function(self, *lines):
-        return "define void @f(i8* %p) #0 {\n  call void @__tsan_func_entry(i8* %1)\n" + "\n".join("  " + line for line in lines) + "\n  ret void\n}\n"
-
-    def test_by_value(self):
-        out = clang_ir.mend(self.function("call void @__sanitizer_cov_load4(i32* %2)", "call void @use(%struct.nine* noundef byval(%struct.nine) align 8 %4), !dbg !9"))
-        self.assertIn("%cilkcheck.1 = bitcast %struct.nine* %4 to i8*, !dbg !9\n  call void @__cilkcheck_read(i8* %cilkcheck.1, i64 ptrtoint (%struct.nine* getelementptr "
-                      "(%struct.nine, %struct.nine* null, i32 1) to i64)), !dbg !9\n  call void @use(", out)
-        self.assertIn("declare void @__cilkcheck_read(i8*, i64)", out)
-
-    def test_long_double(self):
-        out = clang_ir.mend(self.function("call void @__sanitizer_cov_load4(i32* %2)", "store x86_fp80 %9, x86_fp80* @a, align 16, !dbg !2"))
-        self.assertIn("call void @__cilkcheck_wrote(i8* bitcast (x86_fp80* @a to i8*), ", out)
-
-    def test_atomic(self):
-        hook, atomic = "call void @__sanitizer_cov_store4(i32* @x)", "call void @__tsan_atomic32_store(i32* @x, i32 1, i32 5)"
-        self.assertNotIn(hook, clang_ir.mend(self.function("call void @__sanitizer_cov_load8(i64* %3)", hook, atomic)))
-        self.assertIn(hook, clang_ir.mend(self.function(hook, "call void @g()", atomic)))
-        self.assertIn(hook, clang_ir.mend(self.function(hook, atomic.replace("32", "64"))))
-
-    def test_atomic_where_exceptions_pass(self):
-        hook, to = "invoke void @__sanitizer_cov_store4(i32* @x)", "        to label %5 unwind label %6, !dbg !1\n5:  ; preds = %0"
-        atomic = "invoke void @__tsan_atomic32_store(i32* @x, i32 1, i32 5)"
-        first = "call void @__sanitizer_cov_store4(i32* @y)"
-        out = clang_ir.mend(self.function(first, hook, to, atomic))
-        self.assertNotIn(hook, out)
-        self.assertIn("invoke void (i32, ...) @__cilkcheck_share(i32 0)\n          to label %5 unwind label %6", out)
-        self.assertIn("declare void @__cilkcheck_share(i32, ...)", out)
-        self.assertIn(first, out)
-        self.assertIn(hook, clang_ir.mend(self.function(hook, to.replace("5:", "7:"), atomic)))
-        other = "invoke void @g()\n          to label %4 unwind label %6\n4:  ; preds = %0"
-        self.assertIn(first, clang_ir.mend(self.function(first, other, atomic)))
-
-    def test_a_function_without_hooks(self):
-        text = self.function("store i32 2, i32* @x, align 4, !dbg !1", "%2 = load i64*, i64** @p, align 8")
-        out = clang_ir.mend(text)
-        self.assertIn("@__cilkcheck_wrote(i8* bitcast (i32* @x to i8*), ", out)
-        self.assertIn("@__cilkcheck_read(i8* bitcast (i64** @p to i8*), ", out)
-        self.assertEqual(clang_ir.mend(text.replace("  ret", "  call void @__sanitizer_cov_load8(i64* %3)\n  ret")).count("__cilkcheck"), 0)
-
-
-DUMP = """
-;; Function f (f, funcdef_no=0)
-
-void f (struct in * p, struct nine own)
-{
-  struct nine a[3];
-  struct two shared;
-  struct nine D.2450;
-
-  <bb 2> :
-  [a.c:4:58] use (all);
-  [a.c:4:68] use ([a.c:4:68] p_7(D)->n);
-  [a.c:5:10] use (own);
-  [a.c:6:20] [a.c:6:10] *gp.0_1 = make (i_10(D));
-  [a.c:7:5] esc ([a.c:7:9] &shared);
-  [a.c:8:5] use2 (shared, 2);
-  [a.c:9:5] D.2450 = make (3);
-  [a.c:9:9] use (D.2450);
-  [a.c:9:20] fresh = make (3); [return slot optimization]
-  [a.c:10:5] __builtin___tsan_read8 (&gp);
-  [a.c:10:5] x = __complex__ (1.0e+0, 0.0);
-  [a.c:11:5] std::sort<It, bool (*)(P, P)> (first, _3);
-}
+LISTING = """\
+main.o: __cilkcheck_version_1 U
+main.o: __cilkcheck_libc_getline U
+main.o: __cilkcheck_libc_strlen U
+main.o: compress U
+main.o: counter U
+main.o: data U
+main.o: helper U
+main.o: inlined W 0 1
+main.o: main T 0 10
+main.o: sqrt U
+plain.o: counter D 0 4
+plain.o: getline T 0 10
+plain.o: inlined W 0 1
+plain.o: unknown U
+lib.a[used.o]: __cilkcheck_version_1 U
+lib.a[used.o]: deeper U
+lib.a[used.o]: helper T 0 10
+lib.a[unused.o]: __cilkcheck_version_1 U
+lib.a[unused.o]: nothing U
+lib.a[unused.o]: other T 0 10
+lib.a[plain.o]: deeper T 0 10
+table.o: data R 0 40
 """
 
 
-class GccDump(unittest.TestCase):
-    def test_what_is_found(self):
-        found = [(it.line, it.expression, it.callee, it.argument) for it in gcc_structures.parse(DUMP)]
-        self.assertEqual(found, [(4, "all", "use", 0), (4, "p_7(D)->n", "use", 0), (6, "*gp.0_1", "make", None), (8, "shared", "use2", 0), (11, "first", "sort", 0)])
+class Objects(unittest.TestCase):
+    def setUp(self):
+        self.members = objects.members(LISTING)
+        self.program = objects.linked(self.members, {"main"})
 
-    def unseen(self, line, column, callee, argument, arguments=1):
-        return gcc_structures.Unseen("a.c", line, column, "x", callee, argument, arguments)
+    def test_members(self):
+        self.assertEqual([(it.file, it.in_archive, it.is_recorded) for it in self.members], [
+            ("main.o", False, True), ("plain.o", False, False), ("lib.a", True, True), ("lib.a", True, True), ("lib.a", True, False), ("table.o", False, False)])
 
-    def test_told_in_c(self):
-        text = '# 1 "a.c"\nvoid g(void) { use(all); *p = make(1); struct s y = make(2); }\n'
-        places = [self.unseen(1, 16, "use", 0), self.unseen(1, 31, "make", None), self.unseen(1, 53, "make", None)]
-        out, left = gcc_structures.tell(text, False, places)
-        self.assertEqual(out, '# 1 "a.c"\nvoid g(void) { use(__extension__ ({ __auto_type cilkcheck_1_s = (all); cilkcheck_1_s; })); '
-                              '*p = __extension__ ({ __auto_type cilkcheck_2_s = (make(1)); cilkcheck_2_s; }); struct s y = make(2); }\n')
-        self.assertEqual(left, [])
+    def test_what_the_linker_takes(self):
+        self.assertEqual([sorted(it.defined)[0] for it in self.program], ["inlined", "counter", "helper", "deeper", "data"])
 
-    def test_told_in_cxx(self):
-        text = '# 1 "a.c"\nvoid g() { o.use(p->n); *p = make(1); use(*p++); }\n'
-        places = [self.unseen(1, 17, "use", 1, 2), self.unseen(1, 34, "make", None), self.unseen(1, 42, "use", 0)]
-        out, left = gcc_structures.tell(text, True, places)
-        self.assertEqual(out, '# 1 "a.c"\nvoid g() { o.use((__cilkcheck_read(__builtin_addressof(p -> n), sizeof(p -> n)), p->n)); '
-                              '(*p = make(1), __cilkcheck_wrote(__builtin_addressof(* p), sizeof(* p))); use(*p++); }\n')
-        self.assertEqual(left, places[2:])
+    def test_not_seen(self):
+        seen = objects.look(self.program, set())
+        self.assertEqual((seen.unseen, seen.own), (["compress", "deeper", "getline"], ["getline"]))
+
+    def test_partial_link(self):
+        self.assertEqual(objects.look(self.program, set(), is_partial=True).unseen, ["deeper", "getline"])
+
+    def test_the_first_definition_counts(self):
+        members = objects.members("plain.o: inlined W 0 1\nmain.o: __cilkcheck_version_1 U\nmain.o: inlined W 0 1\nlater.o: __cilkcheck_version_1 U\nlater.o: inlined U\n")
+        self.assertEqual(objects.look(members, set()).unseen, ["inlined"])
+        strong = objects.members("plain.o: f W 0 1\nmain.o: __cilkcheck_version_1 U\nmain.o: f T 0 1\nlater.o: __cilkcheck_version_1 U\nlater.o: f U\n")
+        self.assertEqual(objects.look(strong, set()).unseen, [])
+
+    def test_the_runtime_is_seen(self):
+        self.assertEqual(objects.look(self.program, {"compress"}).unseen, ["deeper", "getline"])
+
+    def test_told(self):
+        def demangle(mangled):
+            return {it: {"_Z1fi": "f(int)", "_ZTV1V": "vtable for V"}.get(it, it) for it in mangled}
+        self.assertEqual(objects.told(["_Z1fi", "_ZTV1V", "g"], demangle), "f, g, virtual functions of V")
+        self.assertEqual(objects.told([f"f{it:02}" for it in range(14)], demangle)[-19:], "f11, .. (14 in all)")
+
+    def test_versions(self):
+        members = objects.members("a.o: __cilkcheck_version_1 U\nx/b.o: __cilkcheck_version_7 U\nc.o: f T 0 1\n")
+        self.assertEqual(objects.other_versions(members), ["b.o"])
+
+    def test_lists(self):
+        harmless, redirected = objects.listed("harmless"), objects.listed("redirected")
+        for name in ("setjmp", "_setjmp", "getcontext", "pthread_mutex_init", "mbsinit", "msync", "mtx_init", "pthread_spin_unlock", "__udivmodti4"):
+            self.assertNotIn(name, harmless)
+        self.assertIn("sqrt", harmless)
+        self.assertIn("strlen", redirected)
+        self.assertFalse(harmless & redirected)
+
+
+class Compilers(unittest.TestCase):
+    def test_versions(self):
+        for text, version in (("Debian clang version 14.0.6", "14.0.6"), ("clang version 19.1.7 (https://x)", "19.1.7"), ("Ubuntu clang version 18.1.3 (1)", "18.1.3")):
+            self.assertEqual(VERSION.search(text)[0].rpartition(" ")[2], version)
+        self.assertIsNone(VERSION.search("gcc (Debian 12.2.0-14) 12.2.0"))
+
+    def test_supported(self):
+        for version in ("14.0.6", "19.1.7"):
+            self.assertEqual(Compiler("clang", "/x/clang", version, "t").supported().version, version)
+        for version in ("13.0.1", "20.1.0"):
+            with self.assertRaises(Failed) as failed:
+                Compiler("clang-x", "/x/clang", version, "t").supported()
+            self.assertEqual(failed.exception.status, 70)
+            self.assertIn(f"clang-x is clang {version}: programs are recorded by clang 14 to 19", failed.exception.text)
+
+
+class Outputs(unittest.TestCase):
+    def test_renamed_when_whole(self):
+        with tempfile.TemporaryDirectory() as room, Session() as session:
+            output = Output(session, f"{room}/program")
+            Path(output.made).write_text("whole")
+            self.assertEqual((os.path.dirname(output.made), os.path.exists(f"{room}/program")), (room, False))
+            output.done()
+            self.assertEqual(os.listdir(room), ["program"])
+
+    def test_removed_where_it_is_not(self):
+        with tempfile.TemporaryDirectory() as room:
+            with self.assertRaises(Failed), Session() as session:
+                Path(Output(session, f"{room}/program").made).write_text("half")
+                raise Failed(1)
+            self.assertEqual(os.listdir(room), [])
+
+    def test_a_device_stays(self):
+        with tempfile.TemporaryDirectory() as room:
+            os.mkfifo(f"{room}/pipe")
+            with Session() as session:
+                self.assertTrue(Output(session, f"{room}/pipe").in_place)
+                self.assertTrue(Output(session, "/dev/null").in_place)
+                self.assertTrue(Output(session, "-").in_place)
+            self.assertEqual(os.listdir(room), ["pipe"])
+
+    def test_no_folder(self):
+        with Session() as session, self.assertRaises(Failed) as failed:
+            Output(session, "/nowhere/at/all/x.o")
+        self.assertEqual(failed.exception.text, "unable to open output file '/nowhere/at/all/x.o': No such file or directory")
+
+
+class Messages(unittest.TestCase):
+    def told(self, said, status):
+        source = Source.__new__(Source)
+        source.source = Input("a.c", "c")
+        failed = source.unrecorded(said, status)
+        return failed.status, failed.text
+
+    def test_errors_of_the_rewritten_text(self):
+        for said, told in (
+            ("a.c:7:3: error: expected expression\n1 error generated.\n", (70, "refused: a.c:7: expected expression")),
+            ("./-a.c:7: error: why\n", (70, "refused: -a.c:7: why")),
+            ("a.c:7:3: error: use of undeclared identifier 'cilkcheck_3_s'\n", (70, "refused: a.c:7: this statement cannot be recorded")),
+            ("error: unable to open output file 'x': 'No space left on device'\n", (1, "unable to open output file 'x': 'No space left on device'")),
+            ("Stack dump:\n0. crash\n", (70, "refused: a.c: clang fails with the pass: Stack dump:")),
+            ("a.c:9: error: two calls in .omp\n", (70, "refused: a.c:9: two calls in .omp")),
+        ):
+            with self.subTest(said=said):
+                self.assertEqual(self.told(said, 70 if "omp" in said else 1), told)
 
 
 if __name__ == "__main__":
