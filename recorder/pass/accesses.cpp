@@ -5,6 +5,7 @@
 #include "llvm/IR/IntrinsicInst.h"
 #include "llvm/Support/MathExtras.h"
 #include "versions.h"
+#include <cstring>
 
 namespace cilkcheck {
 
@@ -111,6 +112,7 @@ void Teller::tell_assembly(CallBase &call) {
   auto *assembly = cast<InlineAsm>(call.getCalledOperand());
   unsigned argument = 0;
   bool clobbers = false, unknown = false;
+  std::vector<std::tuple<Value *, Type *, int>> operands;
   for (auto &it : assembly->ParseConstraints()) {
     if (it.Type == InlineAsm::isClobber) {
       for (auto &code : it.Codes)
@@ -131,10 +133,14 @@ void Teller::tell_assembly(CallBase &call) {
       type = pointer->getType()->getPointerElementType();
 #endif
     if (type && type->isSized())
-      tell(call, pointer, type, it.Type == InlineAsm::isOutput ? CILKCHECK_WRITE : CILKCHECK_READ);
+      operands.push_back({pointer, type, it.Type == InlineAsm::isOutput ? CILKCHECK_WRITE : CILKCHECK_READ});
     else
       unknown = true;
   }
+  for (int kind : {CILKCHECK_READ, CILKCHECK_WRITE})
+    for (auto [pointer, type, its_kind] : operands)
+      if (its_kind == kind)
+        tell(call, pointer, type, kind);
   if ((clobbers || unknown) && !assembly->getAsmString().empty())
     recording.note(call, "inline assembly");
 }

@@ -23,7 +23,7 @@ void copy_arguments(Recording &recording, Function &function) {
   }
 }
 
-static uint64_t bytes_of(const Recording &recording, const AllocaInst &local) {
+static uint64_t local_bytes(const Recording &recording, const AllocaInst &local) {
   auto *count = cast<ConstantInt>(local.getArraySize());
   return recording.layout.getTypeAllocSize(local.getAllocatedType()).getKnownMinValue() * count->getZExtValue();
 }
@@ -77,7 +77,7 @@ void Frame::collect() {
         (local->isStaticAlloca() && !recording.layout.getTypeAllocSize(local->getAllocatedType()).isScalable() ? locals : lists).push_back(local);
     } else if (auto *call = dyn_cast<CallBase>(&it)) {
       calls |= !isa<IntrinsicInst>(call);
-      needed |= is_marked(*call, recording.hooks) || passes_list(*call) || (source && source->system && recording.hooks.tells(call));
+      needed |= is_marked(*call, recording.hooks) || passes_list(*call) || (source && source->system && !isa<IntrinsicInst>(call));
       if (auto *intrinsic = dyn_cast<IntrinsicInst>(call))
         needed |= intrinsic->getIntrinsicID() == Intrinsic::vastart;
     }
@@ -109,14 +109,14 @@ Value *Frame::join(IRBuilder<> &builder, std::vector<Row> &rows) {
   for (AllocaInst *local : locals) {
     align = std::max(align, local->getAlign());
     offsets.push_back(alignTo(end, local->getAlign()));
-    end = offsets.back() + std::max<uint64_t>(1, bytes_of(recording, *local));
+    end = offsets.back() + std::max<uint64_t>(1, local_bytes(recording, *local));
   }
   auto *joined = builder.CreateAlloca(ArrayType::get(types.i8, end), nullptr, "cilkcheck.locals");
   joined->setAlignment(align);
   for (unsigned i = 0; i < locals.size(); i++) {
     AllocaInst *local = locals[i];
     auto *variable = names.variable(local);
-    rows.push_back({Field::of_text(variable ? variable->getName() : ""), Field::of_number(offsets[i]), Field::of_number(bytes_of(recording, *local)),
+    rows.push_back({Field::of_text(variable ? variable->getName() : ""), Field::of_number(offsets[i]), Field::of_number(local_bytes(recording, *local)),
                     Field::of_number(variable ? variable->getLine() : 0)});
     // the part lives as long as the frame
     std::vector<Instruction *> lives;

@@ -2,6 +2,7 @@
 #include "pass.h"
 #include "llvm/IR/IntrinsicInst.h"
 #include "versions.h"
+#include <cstring>
 
 namespace cilkcheck {
 

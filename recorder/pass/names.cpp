@@ -1,9 +1,12 @@
 // Names of what is accessed, for people alone.
 #include "pass.h"
 #include "llvm/BinaryFormat/Dwarf.h"
+#include "llvm/Demangle/Demangle.h"
 #include "llvm/IR/InstIterator.h"
 #include "llvm/IR/Operator.h"
 #include "versions.h"
+#include <cstdlib>
+#include <cstring>
 
 namespace cilkcheck {
 
@@ -90,7 +93,8 @@ Names::Lvalue Names::walk(Lvalue from, int64_t offset, uint64_t bytes) {
       offset = size ? (offset % size + size) % size : 0;
       continue;
     }
-    if (!size || offset < 0 || (!offset && bytes >= (uint64_t)size))
+    bool counted = array(from.type) && !size; // its length is a variable's
+    if ((!size && !counted) || offset < 0 || (!offset && !counted && bytes >= (uint64_t)size))
       break;
     if (auto *it = array(from.type)) {
       uint64_t element = bytes_of(element_of(*it));
@@ -120,9 +124,16 @@ Names::Lvalue Names::element(Lvalue base, const GEPOperator &address) const {
     return it && it->isZero();
   };
   Type *type = address.getSourceElementType();
+  uint64_t step = layout.getTypeAllocSize(type).getKnownMinValue();
   auto at = address.idx_begin();
+  // a member at offset 0 has no address computation of its own
+  while (auto *fields = structure(base.type)) {
+    auto *first = isa<StructType>(type) && step >= bytes_of(fields) ? nullptr : member_at(*fields, 0);
+    if (!first || (step >= bytes_of(fields) && !isa<ArrayType>(type)))
+      break;
+    base = member(base, *first);
+  }
   if (!zero(*at)) {
-    uint64_t step = layout.getTypeAllocSize(type).getKnownMinValue();
     auto *whole = array(base.type);
     if (!base.pointee || (whole && step < bytes_of(base.type))) {
       // an array that has become a pointer to its first element
@@ -199,6 +210,24 @@ std::string Names::access(Value *pointer, uint64_t bytes) const {
   return it ? show(walk(it, 0, std::max<uint64_t>(1, bytes))) : "";
 }
 
+// The last name of a function, as the source has it.
+static std::string unqualified(StringRef linkage) {
+  if (begins_with(linkage, "__cilkcheck_libc_"))
+    linkage = linkage.drop_front(strlen("__cilkcheck_libc_"));
+  if (!begins_with(linkage, "_Z"))
+    return linkage.str();
+  ItaniumPartialDemangler demangler;
+  std::string text = linkage.str();
+  if (demangler.partialDemangle(text.c_str()))
+    return text;
+  size_t size = 0;
+  char *name = demangler.isFunction() ? demangler.getFunctionBaseName(nullptr, &size) : nullptr;
+  if (name)
+    text = name;
+  std::free(name);
+  return text;
+}
+
 std::string function_name(const Function &function) {
   const Function *it = &function;
   for (unsigned steps = 0; steps < 8 && it->getName().contains(".omp"); steps++) {
@@ -214,7 +243,7 @@ std::string function_name(const Function &function) {
     it = caller;
   }
   auto *program = it->getSubprogram();
-  return program && !program->getName().empty() ? program->getName().str() : it->getName().str();
+  return program && !program->getName().empty() ? program->getName().str() : unqualified(it->getName());
 }
 
 } // namespace cilkcheck
