@@ -427,6 +427,12 @@ void replace_marks(Function &function, Runtime &runtime) {
     runtime.call(name, arguments, *it, *it);
   }
   for (CallBase *it : concat<CallBase *>(spawns, marks)) remove(*it);
+  // An exception that leaves the function: its children end before its locals are destroyed.
+  for (BasicBlock &block : function)
+    if (LandingPadInst *pad = block.getLandingPadInst()) {
+      Instruction &before = *block.getFirstInsertionPt();
+      runtime.call("__cilkcheck_unwound", {IRBuilder<>(&before).CreateExtractValue(pad, 1)}, before, *pad);
+    }
 }
 
 }  // namespace

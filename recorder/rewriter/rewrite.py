@@ -178,8 +178,11 @@ class Rewriter:
         if kind == "operator":
             if token == "{":
                 return self.block(at, context)
-            if token == "[" and source.tokens[source.solid(at + 1)] == "[":
-                return self.prefixed(at, source.closing(at) + 1, context)
+            if spawns.begins_attribute(source, at):
+                behind = source.closing(at) + 1
+                follows = source.tokens[source.solid(behind)]
+                if follows in self.kinds or follows in ("[", "{", ";"):
+                    return self.prefixed(at, behind, context)
             return self.simple(at, context)
         if kind != "name":
             return self.simple(at, context)

@@ -44,6 +44,7 @@ KEYWORDS = {
 ANY_KEYWORD = re.compile(rf"\b(?:{'|'.join(KEYWORDS)})\b")
 # Options with which clang reads the user's text as the serial elision.
 ELISION = [f"-D{word}{'(...)' if word == '_Cilk_reducer' else ''}={keyword.elision}" for word, keyword in KEYWORDS.items()]
+WIDEST = 500                                                # such lines come from macros
 JUMPS = {"return", "break", "continue", "goto", "co_return", "co_yield", "co_await"}
 
 
@@ -144,7 +145,7 @@ class Source:
                     if token in OPEN:
                         stack.append(at)
                     elif token in ")]}":
-                        if stack and OPEN[self.tokens[stack[-1]]] == token:
+                        if stack and OPEN.get(self.tokens[stack[-1]]) == token:
                             self.pairs[stack.pop()] = at
                         else:
                             stack.append(at)                # never closed: whatever is around it stays unpaired
@@ -194,10 +195,10 @@ class Source:
         return "".join(self.tokens[begin:end])
 
     def words(self, begin, end):
-        return [self.tokens[at] for at in range(begin, end) if self.kinds[at] not in ("space", "directive")]
+        return [self.tokens[at] for at in self.solids(begin, end)]
 
     def solids(self, begin, end):
-        return [at for at in range(begin, end) if self.kinds[at] not in ("space", "directive")]
+        return [at for at in range(begin, min(end, len(self.tokens))) if self.kinds[at] not in ("space", "directive")]
 
     def inner(self, begin, end):
         """The text without white space around it; a directive in it keeps its own line."""
@@ -245,7 +246,8 @@ class Source:
 
     def back_to(self, at):
         """What comes before the token, so that the compiler sees it at its line and column."""
-        return self.line_mark(at) + " " * (self.places[at][2] - 1)
+        column = self.places[at][2]
+        return self.line_mark(at) + " " * (column - 1 if column < WIDEST else 0)
 
 
 def assembly(text):

@@ -24,7 +24,7 @@ SPECIFIERS = {"auto", "const", "volatile", "static", "register", "extern", "thre
 ATTRIBUTES = {"__attribute__", "__attribute", "alignas", "_Alignas", "__extension__"}
 NO_CALL = SPECIFIERS | {"static_cast", "const_cast", "reinterpret_cast", "dynamic_cast", "sizeof", "alignof", "_Alignof", "__alignof__", "noexcept", "typeid"}
 # What the pass is told of the statement: what may be called behind the spawned call, beside destructors.
-NOTHING, ASSIGNED, BOUND = 0, 1, 2
+NOTHING, ASSIGNED, BOUND, UNCLEAR = 0, 1, 2, 3
 NAMELESS = "operator()"                                     # the call of an object, or through a pointer
 
 
@@ -54,15 +54,15 @@ def statement(rewriter, begin, keyword, context):
     call = read_call(rewriter, first, semicolon)
     if begin == keyword and (call is None or call.end != semicolon):
         equals = next((at for at in outside_brackets(source, first, semicolon) if source.tokens[at] == "="), None)
-        if equals is not None and is_declaration(rewriter, first, equals):
+        if equals is not None and declarator(rewriter, first, equals):
             source.refuse(keyword, "a cilk_spawn before a declaration: write it behind the =, T x = cilk_spawn f(..)")
         return outlined(rewriter, keyword, first, semicolon + 1, "a spawned statement", None), semicolon + 1
-    declares = begin != keyword and check_left(rewriter, begin, keyword)
+    declares = NOTHING if begin == keyword else check_left(rewriter, begin, keyword)
     if call and declares and source.tokens[call.end] == ",":
         source.refuse(keyword, "a declarator behind that of a cilk_spawn: declare it in a statement of its own")
     if call is None or call.end != semicolon:
         source.refuse(keyword, "cilk_spawn of what is no call")
-    form = NOTHING if begin == keyword else ASSIGNED
+    form = NOTHING if begin == keyword else declares or ASSIGNED
     if declares and rewriter.cxx and source.tokens[source.before(source.before(keyword))] == "]" and "auto" in source.words(begin, keyword):
         form = BOUND
         if call.name == "get":
@@ -91,28 +91,29 @@ def marked(rewriter, keyword, name, form, statement, place="", declares=False):
         rewriter.spawns += 1
         begin = f'{mark}__cilkcheck_mark_spawn({rewriter.spawns}, "{name}", {form}, {place or 0});'
         end = f"__cilkcheck_mark_spawned({rewriter.spawns});"
-    return f"{begin}{statement} {end}" if declares else f"{{{begin}{statement} {end}}}"
+    return f"{begin} {statement} {end}" if declares else f"{{{begin} {statement} {end}}}"
 
 
 # ---- what stands before the keyword ----
 
 def check_left(rewriter, begin, keyword):
-    """Whether `T x =` stands before the keyword. Refused is what is neither that nor `x =`."""
+    """Whether `T x =` stands before the keyword, as `declarator` says. Refused is what is neither that nor `x =`."""
     source, equals = rewriter.source, rewriter.source.before(keyword)
     if source.tokens[equals] not in ASSIGNMENTS or equals <= begin:
         source.refuse(keyword, "cilk_spawn stands where it may not: it begins a statement, or stands behind the = of one")
     outside = words_outside(source, begin, equals)
-    if source.tokens[equals] == "=" and is_declaration(rewriter, begin, equals):
+    declares = declarator(rewriter, begin, equals) if source.tokens[equals] == "=" else NOTHING
+    if declares:
         if {"static", "thread_local", "_Thread_local", "__thread"} & set(outside):
             source.refuse(keyword, "a cilk_spawn for a variable that is initialized once: assign to it")
-        return True
+        return declares
     if any(word in ASSIGNMENTS for word in outside):
         source.refuse(keyword, "a cilk_spawn behind a second =")
     if "," in outside:
         source.refuse(keyword, "a cilk_spawn behind a comma")
     if {"?", "&&", "||"} & set(outside):
         source.refuse(keyword, "a cilk_spawn that ?:, && or || decide on: write an if")
-    return False
+    return NOTHING
 
 
 def outside_brackets(source, begin, end):
@@ -135,20 +136,25 @@ def words_outside(source, begin, end):
     return [source.tokens[at] for at in outside_brackets(source, begin, end)]
 
 
-def is_declaration(rewriter, begin, equals):
-    """Whether a declarator stands before the =. `T (*x)` could be a call as well: as a declaration it gets no block, and no place before the call."""
+def declarator(rewriter, begin, equals):
+    """Whether a declarator stands before the =: ASSIGNED or NOTHING. `T (*x)` could be a call as well, which is UNCLEAR: it gets no block, and no place
+    before the call."""
     source, at = rewriter.source, begin
-    while source.tokens[at] in ATTRIBUTES or source.tokens[at] == "[" and source.tokens[source.solid(at + 1)] == "[":
+    while source.tokens[at] in ATTRIBUTES or begins_attribute(source, at):
         opening = at if source.tokens[at] == "[" else source.solid(at + 1)
         at = source.solid(source.closing(opening) + 1) if source.tokens[opening] in ("(", "[") else opening
     if source.kinds[at] == "name" and source.tokens[at] in SPECIFIERS:
-        return True
+        return ASSIGNED
     _, at = qualified(rewriter, at, equals)
     if at is None or at >= equals:
-        return False
+        return NOTHING
     if source.kinds[at] == "name" or source.tokens[at] in ("*", "&", "&&"):
-        return True
-    return source.tokens[at] == "(" and source.tokens[source.solid(at + 1)] in ("*", "&", "&&")
+        return ASSIGNED
+    return UNCLEAR if source.tokens[at] == "(" and source.tokens[source.solid(at + 1)] in ("*", "&", "&&") else NOTHING
+
+
+def begins_attribute(source, at):
+    return source.tokens[at] == "[" and source.tokens[source.solid(at + 1)] == "["
 
 
 def target(rewriter, begin, equals, context):

@@ -8,7 +8,8 @@ import unittest
 from pathlib import Path
 
 sys.path.insert(0, str(Path(__file__).resolve().parent.parent.parent))
-from rewriter import Refused, rewrite  # noqa: E402
+from rewriter import ELISION, Refused, rewrite  # noqa: E402
+from rewriter.source import KEYWORDS  # noqa: E402
 
 PRELUDE_END, START = '# 0 "t.c" 2\n', '# 0 "t.c"\n'
 
@@ -23,18 +24,24 @@ def out_of(text, cxx=False, **options):
     return " ".join(body.split())
 
 
-def lines_of(text, cxx=False):
-    """{word: line} of the words w1, w2, .. in the rewritten text, as a compiler counts."""
-    whole = rewrite('# 0 "t.c"\n# 1 "t.c"\n' + text, cxx)
-    line, found = 1, {}
-    for row in whole.split("\n"):
+def rows_of(text, cxx=False):
+    """(line, text) of the rewritten text, as a compiler counts."""
+    line = 1
+    for row in rewrite('# 0 "t.c"\n# 1 "t.c"\n' + text, cxx).split("\n"):
         mark = re.match(r'# (\d+) "([^"]*)"', row)
         if mark:
             line = int(mark.group(1))
             continue
+        yield line, row
+        line += 1
+
+
+def lines_of(text, cxx=False):
+    """{word: line} of the words w1, w2, .."""
+    found = {}
+    for line, row in rows_of(text, cxx):
         for word in re.findall(r"\bw\d+\b", row):
             found.setdefault(word, line)
-        line += 1
     return found
 
 
@@ -45,7 +52,7 @@ class Plain(unittest.TestCase):
 
     def test_keywords_in_strings_and_comments_of_names_stay(self):
         self.assertEqual(out_of('const char *s = "_Cilk_spawn"; void g(void) { int my_Cilk_spawn; _Cilk_sync; }\n'),
-                         'const char *s = "_Cilk_spawn"; void g(void) { int my_Cilk_spawn; __cilkcheck_sync(); }')
+                         'const char *s = "_Cilk_spawn"; void g(void) { int my_Cilk_spawn; __cilkcheck_mark_sync(); }')
 
     def test_lines_stay(self):
         text = "int f(int);\nvoid g(void) {\n  _Cilk_spawn f(\n    w1);\n  w2();\n  _Cilk_for (int i = 0; i < 3; i++)\n    w3();\n  w4();\n}\nint w5;\n"
@@ -55,120 +62,198 @@ class Plain(unittest.TestCase):
 
     def test_a_mark_in_the_middle_of_a_line_is_taken_out(self):
         text = 'void g(void) { f(\n# 1 "t.c" 3 4\n((void *)0)\n# 1 "t.c"\n); _Cilk_sync; }\nint w2;\n'
-        self.assertEqual(out_of(text), "void g(void) { f( ((void *)0) ); __cilkcheck_sync(); } int w2;")
+        self.assertEqual(out_of(text), "void g(void) { f( ((void *)0) ); __cilkcheck_mark_sync(); } int w2;")
         self.assertEqual(lines_of(text)["w2"], 2)
 
     def test_system_headers_are_copied(self):
         text = '# 1 "/usr/include/x.h" 1 3\nint h(void) { return _Cilk_sync; }\n# 2 "t.c" 2\nvoid g(void) { _Cilk_sync; }\n'
-        self.assertEqual(out_of(text), '# 1 "/usr/include/x.h" 1 3 int h(void) { return _Cilk_sync; } void g(void) { __cilkcheck_sync(); }')
+        self.assertEqual(out_of(text), '# 1 "/usr/include/x.h" 1 3 int h(void) { return _Cilk_sync; } void g(void) { __cilkcheck_mark_sync(); }')
+
+
+def in_c(statement, context="void g(void) {{ {} }}"):
+    """What becomes of a statement of C in a function, without the sync at its end."""
+    before, after = context.split("{}")
+    text = out_of(context.replace("{}", statement).replace("{{", "{").replace("}}", "}"))
+    return text.removeprefix("void g(void) { ").removesuffix(" __cilkcheck_mark_sync(); }")
+
+
+def in_cxx(statement):
+    return out_of("void g() { " + statement + " }", True).removeprefix("void g() { ").removesuffix(" __cilkcheck_mark_sync(); }")
+
+
+def spawned(name, form, place, statement, number=1, before=""):
+    """The text of a spawn in C."""
+    text = f'{{ __cilkcheck_mark_spawn({number}, "{name}", {form}, {place}); {statement} __cilkcheck_mark_spawned({number});}}'
+    return f"{{{before} {text[1:].strip()}" if before else text
+
+
+def spawned_cxx(name, form, place, statement, variable="V1"):
+    return f'{{ __cilkcheck_spawn {variable}("{name}", {form}{", " + place if place else ""}); {statement} }}'
 
 
 class SpawnsInC(unittest.TestCase):
-    def test_alone(self):
-        self.assertEqual(out_of("void g(void) { _Cilk_spawn f(1); }"),
-                         "void g(void) { { __cilkcheck_child_begin((void *)0);"
-                         " __typeof__(__builtin_choose_expr(__builtin_types_compatible_p(__typeof__(f(1)), void), (char)0, f(1))) V1 ="
-                         " __builtin_choose_expr(__builtin_types_compatible_p(__typeof__(f(1)), void), (f(1), (char)0), f(1));"
-                         " __cilkcheck_end_life(&V1, sizeof V1); __cilkcheck_child_end(); }__cilkcheck_sync(); }".replace("}__", "} __"))
+    """The user's expression stays. `place` is what is assigned to."""
 
-    def test_arguments_are_evaluated_by_the_spawner(self):
-        text = out_of("void g(int x) { y = _Cilk_spawn f(x + 1, 2); }")
-        self.assertTrue(text.startswith("void g(int x) { { __extension__ __auto_type V1 = (x + 1); if ("), text)
-        self.assertLess(text.index("V1 = (x + 1)"), text.index("child_begin"))
-        self.assertIn("__typeof__(y) *V2 = &(y); __cilkcheck_child_begin((void *)V2, V1); __extension__ __auto_type V3 = f(V1, 2); *V2 = V3;", text)
-        self.assertLess(text.index("*V2 = V3;"), text.index("child_end"))
+    def test_statements(self):
+        for statement, name, form, place, text in [
+                ("_Cilk_spawn f(1);", "f", 0, 0, "f(1);"),
+                ("_Cilk_spawn f(a, h(f(2)));", "f", 0, 0, "f(a, h(f(2)));"),
+                ("_Cilk_spawn p->f[2](1);", "operator()", 0, 0, "p->f[2](1);"),
+                ("_Cilk_spawn (*p)(1);", "operator()", 0, 0, "(*p)(1);"),
+                ("_Cilk_spawn (f)(1);", "f", 0, 0, "(f)(1);"),
+                ("_Cilk_spawn s.f(1);", "f", 0, 0, "s.f(1);"),
+                ("_Cilk_spawn f(1)(2);", "operator()", 0, 0, "f(1)(2);"),
+                ("x = _Cilk_spawn f(1);", "f", 1, "&x", "x = f(1);"),
+                ("x += _Cilk_spawn f(x);", "f", 1, "&x", "x += f(x);"),
+                ("(x) = _Cilk_spawn f(x);", "f", 1, "&x", "(x) = f(x);"),
+                ("s.a.bits = _Cilk_spawn f(1);", "f", 1, "&s", "s.a.bits = f(1);")]:
+            with self.subTest(statement=statement):
+                self.assertEqual(in_c(statement), spawned(name, form, place, text))
 
-    def test_initialized(self):
-        text = out_of("int g(void) { const long x = _Cilk_spawn f(1); return x; }")
-        self.assertIn("const long x = (__cilkcheck_child_begin((void *)&x), f(1)); __cilkcheck_wrote((void *)&x, sizeof x); __cilkcheck_child_end();", text)
-        self.assertIn("{ char V1 __attribute__((cleanup(__cilkcheck_sync_left), unused)); return x; }", text)
-        self.assertTrue(text.endswith("return x; } }"), "no sync behind a return")
+    def test_a_place_is_computed_before(self):
+        for left, before, place, after in [
+                ("*p", "&( *p)", "V1", "(*V1)"), ("a[i]", "&( a[i])", "V1", "(*V1)"), ("a[i].b.bits", "&( a[i])", "V1", "(*V1) .b.bits"),
+                ("p->bits", "( p)", "V1", "V1 ->bits"), ("p->q->r.s", "( p->q)", "V1", "V1 ->r.s"), ("(*p).bits", "&( (*p))", "V1", "(*V1) .bits"),
+                ("f(1)->x", "( f(1))", "V1", "V1 ->x")]:
+            with self.subTest(left=left):
+                self.assertEqual(in_c(f"{left} |= _Cilk_spawn f(1);"),
+                                 f'{{__auto_type V1 = {before}; {{ __cilkcheck_mark_spawn(1, "f", 1, {place}); {after} |= f(1); __cilkcheck_mark_spawned(1);}}}}')
 
-    def test_a_member_as_an_argument_may_be_a_bit_field(self):
-        self.assertIn("__auto_type V1 = ((void)0, p->bits); ", out_of("void g(struct s *p) { _Cilk_spawn f(p->bits); }"))
+    def test_declarations(self):
+        for left in ("const long x", "typeof(n) y", "int (*y)[3]", "struct s y", "T y", "T *y", "T const *y", "__auto_type y", "unsigned y", "int a = f(2), b",
+                     "T (*y)[3]", "T (*y)(int)", "__attribute__((unused)) T y", "_Alignas(16) int y", "_Atomic(int) y"):
+            with self.subTest(left=left):
+                form = 3 if left.startswith("T (*") else 1
+                self.assertEqual(in_c(f"{left} = _Cilk_spawn f(1);"),
+                                 f'__cilkcheck_mark_spawn(1, "f", {form}, 0); {left} = f(1); __cilkcheck_mark_spawned(1);')
 
-    def test_added(self):
-        self.assertIn("*V1 += V2;", out_of("void g(void) { a[i] += _Cilk_spawn f(1); }"))
+    def test_spawns_have_numbers(self):
+        text = in_c("_Cilk_spawn f(1); _Cilk_spawn f(2);")
+        self.assertEqual(text, spawned("f", 0, 0, "f(1);") + " " + spawned("f", 0, 0, "f(2);", 2))
 
-    def test_through_a_pointer(self):
-        text = out_of("void g(void) { _Cilk_spawn (*p)(1); }")
-        self.assertIn("__auto_type V1 = ((*p)); ", text)
-        self.assertIn("V1(1)", text)
-
-    def test_clang_tells_the_variables_of_arguments(self):
-        text = out_of("void g(int x) { y = _Cilk_spawn f(x); }", tells_all_locals=True)
-        self.assertIn("__cilkcheck_end_life(&V1, sizeof V1); __cilkcheck_end_life(&V2, sizeof V2); __cilkcheck_child_end();", text)
+    def test_what_is_no_call_is_a_block(self):
+        for statement in ("a[0] = g(1);", "x++;", "f(1), g(2);", "(void)f(1);", "f(1) + 2;", "if (x) f(1);", "for (;;) f(1);", "*p = f(1);", ";", "while (x) ;"):
+            with self.subTest(statement=statement):
+                self.assertEqual(in_c(f"_Cilk_spawn {statement}"), f"{{ __cilkcheck_mark_outlined(); #pragma omp task default(shared) {statement} }}")
 
     def test_a_block(self):
-        self.assertEqual(out_of("void g(void) { _Cilk_spawn { a = 1; } }"),
-                         "void g(void) { { __cilkcheck_outlined(); #pragma omp task default(shared) { a = 1; } } __cilkcheck_sync(); }")
+        self.assertEqual(in_c("_Cilk_spawn { a = 1; }"), "{ __cilkcheck_mark_outlined(); #pragma omp task default(shared) { a = 1; } }")
+        self.assertEqual(in_c("_Cilk_spawn { _Cilk_spawn f(1); }"), "{ __cilkcheck_mark_outlined(); #pragma omp task default(shared) { "
+                         + spawned("f", 0, 0, "f(1);") + " __cilkcheck_mark_sync(); } }")
 
-    def test_a_block_by_gcc(self):
-        self.assertEqual(out_of("void g(void) { _Cilk_spawn { a = b; } }", copies_into_tasks=True),
-                         "void g(void) { { __cilkcheck_outlined(); #pragma omp task default(shared) depend(inout: __cilkcheck_task) { a = b; } } __cilkcheck_sync(); }")
+    def test_a_return_syncs(self):
+        text = out_of("int g(void) { x = _Cilk_spawn f(1); return x; }")
+        self.assertTrue(text.endswith("{ char V1 __attribute__((cleanup(__cilkcheck_mark_sync_left))); return x; } __cilkcheck_mark_sync(); }"), text)
 
     def test_as_a_part_of_a_statement(self):
         text = out_of("void g(int n) { if (n) _Cilk_spawn f(1); else y = _Cilk_spawn f(2); while (n) _Cilk_spawn f(3); }")
-        self.assertRegex(text, r"if \(n\) \{ .*? \} else \{ .*? \} while \(n\) \{ ")
+        self.assertRegex(text, r"if \(n\) \{\{ .*?\}\} else \{\{ .*?\}\} while \(n\) \{\{ .*?\}\}")
 
     def test_a_function_of_old(self):
-        self.assertIn("child_begin", out_of("int g(a) int a; { int x; x = _Cilk_spawn f(a); return x; }"))
+        self.assertIn('__cilkcheck_mark_spawn(1, "f", 1, &x); x = f(a);', out_of("int g(a) int a; { int x; x = _Cilk_spawn f(a); return x; }"))
+
+    def test_digraphs(self):
+        self.assertEqual(out_of("void g(void) <% a<:1:> = 2; _Cilk_spawn f(1); %>"), "void g(void) { a[1] = 2; " + spawned("f", 0, 0, "f(1);") + " __cilkcheck_mark_sync(); }")
 
 
 class SpawnsInCxx(unittest.TestCase):
-    def test_alone(self):
-        self.assertEqual(out_of("void g() { _Cilk_spawn n::f<int>(x); }", True),
-                         'void g() { __cilkcheck_child("f", 1) % [&]() -> void { n::f<int>(x); }; __cilkcheck_sync(); }')
+    def test_statements(self):
+        for statement, name, form, place, text in [
+                ("_Cilk_spawn n::f<int>(x);", "f", 0, "", "n::f<int>(x);"),
+                ("_Cilk_spawn ::f(x);", "f", 0, "", "::f(x);"),
+                ("_Cilk_spawn f<std::map<int, long>>(x);", "f", 0, "", "f<std::map<int, long>>(x);"),
+                ("_Cilk_spawn o->template m<3>(x);", "m", 0, "", "o->template m<3>(x);"),
+                ("_Cilk_spawn this->m(x);", "m", 0, "", "this->m(x);"),
+                ("_Cilk_spawn (p.*m)(1);", "operator()", 0, "", "(p.*m)(1);"),
+                ("_Cilk_spawn T{1}(x);", "operator()", 0, "", "T{1}(x);"),
+                ("_Cilk_spawn v[2](x);", "operator()", 0, "", "v[2](x);"),
+                ("_Cilk_spawn a.operator+(b);", "operator+", 0, "", "a.operator+(b);"),
+                ("_Cilk_spawn operator<<(a, b);", "operator<<", 0, "", "operator<<(a, b);"),
+                ("_Cilk_spawn p->~T();", "~T", 0, "", "p->~T();"),
+                ("_Cilk_spawn static_cast<T *>(p)->m();", "m", 0, "", "static_cast<T *>(p)->m();"),
+                ("_Cilk_spawn [&](int k) { a = k; }(3);", "operator()", 0, "", "[&](int k) { a = k; }(3);"),
+                ("_Cilk_spawn [&]<class T>(T k) -> int { a = k; }(3);", "operator()", 0, "", "[&]<class T>(T k) -> int { a = k; }(3);"),
+                ("x = _Cilk_spawn f(1);", "f", 1, "x", "x = f(1);"),
+                ("n::x.y = _Cilk_spawn f(1);", "f", 1, "n::x", "n::x.y = f(1);"),
+                ("this->x = _Cilk_spawn f(1);", "f", 1, "", "this->x = f(1);")]:
+            with self.subTest(statement=statement):
+                self.assertEqual(in_cxx(statement), spawned_cxx(name, form, place, text))
 
-    def test_arguments_that_call(self):
-        self.assertIn('__cilkcheck_child("f", 0) % [&]() -> void { f(h(x)); };', out_of("void g() { _Cilk_spawn f(h(x)); }", True))
+    def test_a_place_is_computed_before(self):
+        for left, before, after in [("a[i]", "( a[i])", "V1"), ("p->bits", "*( p)", "V1 . bits"), ("o.at(i).b", "( o.at(i))", "V1 .b"), ("at(i)", "( at(i))", "V1"),
+                                    ("this->p->x", "*( this->p)", "V1 . x"), ("p->*m", "( p->*m)", "V1"), ("A<int>::x", "( A<int>::x)", "V1")]:
+            with self.subTest(left=left):
+                self.assertEqual(in_cxx(f"{left} = _Cilk_spawn f(1);"),
+                                 f"{{auto &&V1 = {before}; " + spawned_cxx("f", 1, "V1, __cilkcheck_temporary<__decltype(V1)>::bytes", f"{after} = f(1);", "V2") + "}")
 
-    def test_result(self):
-        self.assertIn('__cilkcheck_child("m", 1) % [&]() -> void { auto &&V1 = (a[i]); auto &&V2 = o->m(x); __cilkcheck_child_called(); V1 += static_cast<decltype(V2)>(V2); };',
-                      out_of("void g() { a[i] += _Cilk_spawn o->m(x); }", True))
+    def test_declarations(self):
+        for left, form in [("auto y", 1), ("const T &y", 1), ("auto &&y", 1), ("std::map<int, long> y", 1), ("::n::T y", 1), ("auto [p, q]", 2), ("const auto &[p, q]", 2),
+                           ("int a = f(2), b", 1), ("T<(a > b)> y", 1), ("decltype(auto) y", 1), ("[[maybe_unused]] T y", 1), ("T (&y)[3]", 3), ("typename T::x y", 1), ("int y[2]", 1)]:
+            with self.subTest(left=left):
+                self.assertEqual(in_cxx(f"{left} = _Cilk_spawn f(1);"), f'__cilkcheck_spawn V1("f", {form}); {left} = f(1); V1.left();')
 
-    def test_initialized(self):
-        self.assertIn('__cilkcheck_child V1("f", 1); auto y = static_cast<__cilkcheck_child &&>(V1) % [&]() -> decltype(auto) { return f(x); };'
-                      " V1.left(); __cilkcheck_share(0, __builtin_addressof(y));", out_of("void g() { auto y = _Cilk_spawn f(x); }", True))
-
-    def test_template_type(self):
-        self.assertIn("std::map<int, long> y = static_cast", out_of("void g() { std::map<int, long> y = _Cilk_spawn f(x); }", True))
-
-    def test_lambda(self):
-        self.assertIn('__cilkcheck_child("operator()", 1) % [&]() -> void { auto &&V1 = ([&](int k) { a = k; }); V1(3); };',
-                      out_of("void g() { _Cilk_spawn [&](int k) { a = k; }(3); }", True))
+    def test_a_block(self):
+        self.assertEqual(in_cxx("_Cilk_spawn { a = 1; }"), spawned_cxx("operator()", 0, "", "[&]() mutable -> void { { a = 1; } }();"))
+        self.assertEqual(in_cxx("_Cilk_spawn a[0] = g(1);"), spawned_cxx("operator()", 0, "", "[&]() mutable -> void { a[0] = g(1); }();"))
+        self.assertEqual(in_cxx("_Cilk_spawn static_cast<void>(g(1));"), spawned_cxx("operator()", 0, "", "[&]() mutable -> void { static_cast<void>(g(1)); }();"))
 
     def test_in_a_lambda(self):
-        self.assertIn("auto h = [&](int k) { __cilkcheck_child(\"f\", 1) % [&]() -> void { f(k); }; __cilkcheck_sync(); };",
-                      out_of("void g() { auto h = [&](int k) { _Cilk_spawn f(k); }; }", True))
+        self.assertEqual(out_of("void g() { auto h = [&](int k) { _Cilk_spawn f(k); }; }", True),
+                         "void g() { auto h = [&](int k) { " + spawned_cxx("f", 0, "", "f(k);") + " __cilkcheck_mark_sync(); }; __cilkcheck_mark_sync(); }")
 
     def test_return_and_classes(self):
-        self.assertEqual(out_of("namespace n { template <class T> struct A : B<T> { A() : b{1}, c(2) { _Cilk_spawn f(); } int m() const { int x = 0; x = _Cilk_spawn f(); return x; } }; }", True).count("__cilkcheck_syncs V"), 1)
+        text = out_of("namespace n { template <class T> struct A : B<T> { A() : b{1}, c(2) { _Cilk_spawn f(); } int m() const { int x = 0; x = _Cilk_spawn f(); return x; } }; }", True)
+        self.assertIn("{ __cilkcheck_syncs V3; return x; } __cilkcheck_mark_sync(); } }; }", text)
+        self.assertIn("A() : b{1}, c(2) { { __cilkcheck_spawn V1(", text)
+
+    def test_a_namespace_with_a_class(self):
+        text = out_of('extern "C" { struct s { int a; }; void h() { _Cilk_spawn f(); } } enum e { a }; int g() { _Cilk_sync; }', True)
+        self.assertTrue(text.endswith("} } enum e { a }; int g() { __cilkcheck_mark_sync(); }"), text)
 
     def test_try(self):
-        self.assertIn("f(); }; __cilkcheck_sync(); } catch (...) { }", out_of("void g() { try { _Cilk_spawn f(); } catch (...) { } }", True))
+        self.assertIn("f(); } __cilkcheck_mark_sync(); } catch (...) { }", out_of("void g() { try { _Cilk_spawn f(); } catch (...) { } }", True))
+
+    def test_if_constexpr(self):
+        self.assertIn("if constexpr (a) {{ __cilkcheck_spawn", out_of("void g() { if constexpr (a) _Cilk_spawn f(); if consteval { h(); } else { _Cilk_spawn f(); } }", True))
 
 
 class Loops(unittest.TestCase):
     def test_for_in_c(self):
         self.assertEqual(out_of("void g(void) { _Cilk_for (int i = 0; i < n; i += 2) { a[i] = i; } }"),
-                         "void g(void) { { char V1 __attribute__((cleanup(__cilkcheck_scope_left), unused)); __cilkcheck_scope_begin(); for (int i = 0; i < n; i += 2) "
-                         "{ { __cilkcheck_outlined(); #pragma omp task default(shared) firstprivate(i) { a[i] = i; } } } } }")
+                         "void g(void) { { char V1 __attribute__((cleanup(__cilkcheck_mark_scope_left))); __cilkcheck_mark_scope_begin(); for (int i = 0; i < n; i += 2) "
+                         "{ { __cilkcheck_mark_outlined(); #pragma omp task default(shared) firstprivate(i) { a[i] = i; } } } } }")
 
     def test_for_in_cxx(self):
         self.assertEqual(out_of("void g() { _Cilk_for (auto i = b; i != e; ++i) *i = 0; }", True),
-                         "void g() { { __cilkcheck_scope V1; for (auto i = b; i != e; ++i) { __cilkcheck_child(0, 0) % [&, i]() mutable -> void { (void)i; *i = 0; }; } } }")
+                         "void g() { { __cilkcheck_scope V1; for (auto i = b; i != e; ++i) { " + spawned_cxx("operator()", 0, "", "[&, i]() mutable -> void { *i = 0; }();", "V2") + " } } }")
 
     def test_continue(self):
         self.assertIn("for (int V2 = 1; V2; V2 = 0) { if (i) continue; f(i); }", out_of("void g(void) { _Cilk_for (int i = 0; i < n; i++) { if (i) continue; f(i); } }"))
 
     def test_scope(self):
-        self.assertEqual(out_of("void g() { _Cilk_scope { h(); } }", True), "void g() { { __cilkcheck_scope V1; { h(); __cilkcheck_sync(); } } }")
+        self.assertEqual(out_of("void g() { _Cilk_scope { h(); } }", True), "void g() { { __cilkcheck_scope V1; { h(); __cilkcheck_mark_sync(); } } }")
+
+
+class Columns(unittest.TestCase):
+    def test_the_tokens_of_the_user_stay_where_they_are(self):
+        text = "void w0(void) {\n  w1 = _Cilk_spawn w2(w3); w4();\n  if (w5) w6[w7] = _Cilk_spawn w8(); else w9();\n  _Cilk_for (int i = 0; i < 3; i++) w10();\n}\n"
+        for cxx in (False, True):
+            found = {}
+            for number, row in rows_of(text, cxx):
+                for word in re.finditer(r"\bw\d+\b", row):
+                    found.setdefault(word.group(), []).append((number, word.start()))
+            for number, row in enumerate(text.split("\n"), 1):
+                shift = 0
+                for word in re.finditer(r"\bw\d+\b|_Cilk_(?:spawn|for)", row):
+                    if word.group()[0] == "_":
+                        shift += 1                          # the user wrote one letter less
+                    else:
+                        self.assertIn((number, word.start() - shift if word.group() in ("w2", "w3", "w8") else word.start()), found[word.group()], (word.group(), cxx))
 
 
 class Views(unittest.TestCase):
     def operations(self, text):
-        view = "(*(__cilkcheck_reducer((void *)&(%s), __cilkcheck_use, (void *)&(%s).v, 8), &(%s).v))"
+        view = "(*(__cilkcheck_mark_reducer((void *)&(%s), __cilkcheck_use, (void *)&(%s).v, 8), &(%s).v))"
         text = re.sub(r"VIEW\((\w)\)", lambda found: view % ((found.group(1),) * 3), text)
         return re.findall(r"&\(\w\), (\w+),", out_of(text))
 
@@ -185,11 +270,26 @@ class Refusals(unittest.TestCase):
     CASES = [                                               # (text, C++, line, a part of why)
         ("void g(void) {\n  h(_Cilk_spawn f(1)); }", False, 2, "stands where it may not"),
         ("int g(void) {\n  return _Cilk_spawn f(1); }", False, 2, "stands where it may not"),
+        ("void g(void) {\n  for (int i = _Cilk_spawn f(1); i; i--) ; }", False, 2, "stands where it may not"),
+        ("void g() {\n  T x{_Cilk_spawn f(1)}; }", True, 2, "stands where it may not"),
+        ("void g() {\n  T x(_Cilk_spawn f(1)); }", True, 2, "stands where it may not"),
+        ("struct A { int x; A() :\n x(_Cilk_spawn f(1)) { } };", True, 2, "stands where it may not"),
         ("void g(void) {\n\n  x = _Cilk_spawn 3; }", False, 3, "no call"),
         ("void g(void) { x = _Cilk_spawn f(1) + 1; }", False, 1, "no call"),
+        ("void g(void) { x = _Cilk_spawn (long)f(1); }", False, 1, "no call"),
+        ("void g() { x = _Cilk_spawn new T(1); }", True, 1, "no call"),
+        ("void g() { x = _Cilk_spawn static_cast<long>(f(1)); }", True, 1, "no call"),
         ("void g(void) { x = y = _Cilk_spawn f(1); }", False, 1, "second ="),
-        ("void g(void) { int a = _Cilk_spawn f(1), b; }", False, 1, "no call"),
+        ("void g(void) { y, x = _Cilk_spawn f(1); }", False, 1, "behind a comma"),
+        ("void g(void) { a ? x : (y) = _Cilk_spawn f(1); }", False, 1, "decide on"),
+        ("void g(void) {\n int a = _Cilk_spawn f(1), b; }", False, 2, "a declarator behind"),
+        ("void g(void) { static int a = _Cilk_spawn f(1); }", False, 1, "initialized once"),
+        ("void g() { thread_local T a = _Cilk_spawn f(1); }", True, 1, "initialized once"),
+        ("void g(void) { _Cilk_spawn int a = f(1); }", False, 1, "before a declaration"),
+        ("void g() { auto [a, b] = _Cilk_spawn x.get(); }", True, 1, "a get whose result is taken apart"),
         ("void g(void) { _Cilk_spawn f(_Cilk_spawn f(1)); }", False, 1, "stands where it may not"),
+        ("void g(void) { _Cilk_spawn _Cilk_spawn f(1); }", False, 1, "a cilk_spawn in a cilk_spawn"),
+        ("void g(void) { _Cilk_spawn return; }", False, 1, "a return out of a spawned statement"),
         ("void g(void) { x = _Cilk_spawn { }; }", False, 1, "no value"),
         ("void g(void) { if (_Cilk_spawn f(1)) ; }", False, 1, "stands where it may not"),
         ("void g(void) {\n  _Cilk_for (int i = 0; i < n; i++) {\n    if (i) break; } }", False, 3, "a break out of a cilk_for"),
@@ -201,8 +301,6 @@ class Refusals(unittest.TestCase):
         ("void g(void) { _Cilk_for (int i = 0, j = 1; i < n; i++) ; }", False, 1, "one variable"),
         ("void g() { _Cilk_for (auto x : v) ; }", True, 1, "an initialization, a condition"),
         ("void g(void) { _Cilk_for (int i = 0; j < n; i++) ; }", False, 1, "the condition"),
-        ("void g() { _Cilk_spawn f(f(1)); }", True, 1, "may call a f too"),
-        ("void g() { _Cilk_spawn (*p)(h(1)); }", True, 1, "arguments contain a call"),
         ("void g(void) { _Cilk_sync + 1; }", False, 1, "cilk_sync stands alone"),
         ("int x = _Cilk_spawn f(1);", False, 1, "stands where it may not"),
         ("long _Cilk_reducer(zero, add) sum = 0;", False, 1, "cilk_reducer: a reducer of OpenCilk"),
@@ -227,9 +325,6 @@ class Refusals(unittest.TestCase):
             self.assertEqual(refused.exception.line, 2)
         fine = '# 0 "t.c"\nvoid g(void) {\n#pragma omp task\n  h(); }\n'
         self.assertEqual(rewrite(fine, False, openmp_on=True), fine)
-        shared = rewrite(fine, False, openmp_on=True, copies_into_tasks=True)
-        self.assertTrue(shared.endswith('\n' + fine.replace("omp task", "omp task depend(inout: __cilkcheck_task)")), shared)
-        self.assertIn("extern char __cilkcheck_task;", shared)
         self.assertEqual(rewrite(fine, False), '# 0 "t.c"\nvoid g(void) {\n\n  h(); }\n')
 
     def test_directives_as_attributes(self):
@@ -242,17 +337,48 @@ class Refusals(unittest.TestCase):
         text = '# 0 "t.c"\nnamespace omp { int directive; } int g() { return omp::directive; }\n'
         self.assertEqual(rewrite(text, True), text)
 
-    def test_a_taskloop_whose_rounds_nobody_waits_for(self):
-        def text(directive):
-            return f'# 0 "t.c"\n# 1 "t.c"\nvoid g(int nogroup) {{\n#pragma omp {directive}\n  for (int i = 0; i < 3; i++) h(nogroup); }}\n'
-        for directive in ("taskloop nogroup", "taskloop,nogroup", "taskloop shared(nogroup) grainsize((2) + f(1)) nogroup", "parallel master taskloop nogroup"):
-            rewrite(text(directive), False, openmp_on=True)
-            with self.subTest(directive=directive), self.assertRaises(Refused) as refused:
-                rewrite(text(directive), False, openmp_on=True, copies_into_tasks=True)
-            self.assertEqual(refused.exception.line, 2)
-            self.assertIn("gcc copies what the rounds only read", refused.exception.why)
-        for directive in ("taskloop", "taskloop shared(nogroup)", "taskloop grainsize((1) + f(nogroup))"):
-            rewrite(text(directive), False, openmp_on=True, copies_into_tasks=True)
+
+
+class Malformed(unittest.TestCase):
+    """clang says what is wrong with it: the rewriter only has to end, with a text or a refusal."""
+    TEXTS = ["void g(void) { x = _Cilk_spawn f(1) }", "void g(void) { _Cilk_spawn f(1; }", "void g(void) { _Cilk_spawn", "_Cilk_spawn", "void g(void) { if _Cilk_spawn f(1); }",
+             "void g(void) { while", "void g(void) { _Cilk_for", "void g(void) { _Cilk_for (", "void g(void) { do _Cilk_spawn f(); ", "void g() { try { _Cilk_spawn f(); } catch",
+             "void g() { case 1 _Cilk_spawn f(); }", "void g() { [ _Cilk_spawn f(); }", "void g() { x = [] _Cilk_spawn f(); }", "void g() { a<b<c = _Cilk_spawn f<; }",
+             "void g() { _Cilk_spawn operator", "void g() { x->_Cilk_spawn", "void g() { = _Cilk_spawn f(); }", "void g() { l: _Cilk_spawn", "template < _Cilk_spawn f(); }",
+             "void g() { return _Cilk_spawn", "}}} _Cilk_spawn f(); {{{", "void g() { _Cilk_spawn ::; }", "void g() { _Cilk_spawn a.; }", "void g() { _Cilk_spawn ~f(); }",
+             "void g() { T x = _Cilk_spawn f(), ; }", "void g() { _Cilk_scope", "void g() { _Cilk_sync", "void g() { goto", "void g() { default _Cilk_spawn f(); }",
+             "#pragma omp\nvoid g() { _Cilk_spawn f(); }", "'_Cilk_spawn", '"_Cilk_spawn', "void g() { _Cilk_spawn f(); } /*"]
+
+    def test_each(self):
+        for text in self.TEXTS:
+            for cxx in (False, True):
+                for openmp_on in (False, True):
+                    for end in ("", "\n"):
+                        with self.subTest(text=text, cxx=cxx):
+                            try:
+                                rewrite('# 0 "t.c"\n# 1 "t.c"\n' + text + end, cxx, openmp_on)
+                            except Refused:
+                                pass
+
+    def test_deep(self):
+        for text in ("if (x) {" * 3000 + "_Cilk_spawn f();" + "}" * 3000, "if (x) a(); else " * 3000 + "_Cilk_spawn f();", "x = " + "(" * 3000 + "_Cilk_spawn f()" + ")" * 3000 + ";"):
+            try:
+                rewrite('# 0 "t.c"\n# 1 "t.c"\nvoid g(void) {' + text + "}\n", False)
+            except Refused:
+                pass
+
+
+class Keywords(unittest.TestCase):
+    def test_the_header_defines_them(self):
+        header = (Path(__file__).resolve().parents[2] / "include/cilk/cilk.h").read_text()
+        defined = dict(re.findall(r"#define (cilk_\w+) (_Cilk_\w+)$", header, re.M))
+        self.assertEqual(defined, {it.name: word for word, it in KEYWORDS.items() if word.startswith("_Cilk")})
+        elided = dict(re.findall(r"#define (cilk_\w+)(?:\(\.\.\.\))?(?: ([^_\n].*|))?$", header, re.M))
+        self.assertEqual(elided, {it.name: it.elision for word, it in KEYWORDS.items() if word.startswith("_Cilk")})
+
+    def test_the_options_of_the_elision(self):
+        self.assertIn("-D_Cilk_sync=((void)0)", ELISION)
+        self.assertEqual(len(ELISION), len(KEYWORDS))
 
 
 if __name__ == "__main__":
