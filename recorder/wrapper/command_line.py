@@ -27,7 +27,7 @@ DEPENDENCIES = {"-MD", "-MMD", "-MP", "-MG", "-MV", "-MF", "-MT", "-MQ", "-MJ"}
 # in their place among the objects and archives
 AMONG_INPUTS = {"-l", "-Xlinker", "-T", "-u", "-z", "-e", "-framework", "-rpath"}
 LINKER = re.compile(
-    r"-L|-static|-no-pie|-nopie|-pie|-static-pie|-rdynamic|-nostdlib(\+\+)?|-nostartfiles|-nodefaultlibs|-nolibc|-r|-static-lib.*|-shared-lib.*|-s"
+    r"-L|--?static|-no-pie|-nopie|-pie|-static-pie|-rdynamic|-nostdlib(\+\+)?|-nostartfiles|-nodefaultlibs|-nolibc|-r|-static-lib.*|-shared-lib.*|-s"
     r"|-fuse-ld=.*|--ld-path=.*|-stdlib\+\+-isystem"
 )
 LANGUAGES = {

@@ -221,8 +221,8 @@ def flags(plugin):
 
 
 def environment():
-    """What the pass reads."""
-    return {**os.environ, "CILKCHECK_NAMES": str(NAMES)}
+    """What the pass reads; and a compiler that crashes leaves no files of its symbolizer."""
+    return {**os.environ, "CILKCHECK_NAMES": str(NAMES), "LLVM_DISABLE_SYMBOLIZATION": "1"}
 
 
 if __name__ == "__main__":                                  # tools/install: builds and tries the pass in a folder

@@ -150,6 +150,9 @@ class Link:
             raise Failed(REFUSED, "refused: a shared library is not recorded: link its objects into the program")
         sources = [it for it in commands.files() if it.language]
         options = commands.for_linking()
+        static = {"-static", "-static-pie", "--static"} & set(options)
+        if static:
+            raise Failed(REFUSED, f"refused: {static.pop()}: the recorder has its own malloc, which a static C library has too; link without it")
         is_partial = "-r" in options
         output = Output(self.session, commands.output or "a.out")
         inputs = self.compiled()

@@ -134,7 +134,7 @@ class Source:
             return Failed(REFUSED, f"refused: {found['place'].removeprefix('./')}: {why}")
         lines = [it for it in said.splitlines() if "error:" in it] or said.splitlines() or ["no message"]
         if re.search(r"No space left|File too large|unable to open output|IO failure", said):
-            return Failed(1, re.sub(r"^.*?error: ", "", lines[0]))
+            return Failed(1, re.sub(r"^.*?error: (error in backend: )?", "", lines[0]))
         return Failed(REFUSED, f"refused: {self.source.name}: clang fails with the pass: {lines[0]}")
 
 
