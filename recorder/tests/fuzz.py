@@ -3,13 +3,15 @@
 
     fuzz.py [--count N] [--seed S] [--spread] [--keep FOLDER] [--expect N] [--expect-racy N]
 
-A program has globals of 1, 2, 4, 8 and 16 bytes, functions that call, spawn and call themselves, locals and elements and fields whose addresses
-are handed on, blocks of the heap, results of spawns, spawned blocks, loops of spawns, cilk_for, cilk_scope, atomics, copies, reducers, early
-returns; in C++ references, lambdas, methods and exceptions besides; and a function with many frames that are alike, few of them racy. The oracle (oracle.py) interprets the same tree. Each program is recorded
-four times: compressed, compressed with the judge deciding epochs, compressed in traces of 60 requests (which the recorder may refuse), and with
-every access of every byte. Each recording has to show a race
-at exactly the bytes of globals at which the oracle finds one, and at as many bytes of locals and of the heap; the lines of each report and
-the spawn at which they part have to be a pair and a spawn that the oracle knows for that byte; and the output has to be the serial elision's.
+A program is a tree of the statements in grammar/: accesses of numbers, fields, bit-fields, unions and packed
+structures, casts, pointers to elements and to functions, functions of libc, the heap, loops, switches and jumps, calls,
+spawns, spawned blocks, cilk_for, cilk_scope, atomics, reducers, early returns; in C++ references, lambdas, methods,
+destructors, templates, exceptions and containers besides; and a function with many frames that are alike, few of them
+racy. The oracle (oracle.py) interprets the same tree. Each program is recorded four times: compressed, compressed with
+the judge deciding epochs, compressed in traces of 60 requests (which the recorder may refuse), and with every access of
+every byte. Each recording has to show a race at exactly the bytes of globals at which the oracle finds one, and at as
+many bytes of locals and of the heap; the lines of each report and the spawn at which they part have to be a pair and a
+spawn that the oracle knows for that byte; and the output has to be the serial elision's.
 
 Programs are spread over the compilers, three levels and both languages, 25 of them to a source.
 """
@@ -28,7 +30,13 @@ from generator import HEADER, Program, main_of
 from oracle import Oracle, TooLong
 
 EACH = 25
-MODES = {"compressed": {}, "epochs by the judge": {"CILKCHECK_EPOCHS": "no"}, "in parts": {"CILKCHECK_LIMIT": "60"}, "raw": {"CILKCHECK_RAW": "1"}}
+FLAGS = ["-w", "-fwrapv"]
+MODES = {
+    "compressed": {},
+    "epochs by the judge": {"CILKCHECK_EPOCHS": "no"},
+    "in parts": {"CILKCHECK_LIMIT": "60"},
+    "raw": {"CILKCHECK_RAW": "1"},
+}
 SINK = """
 static unsigned long sum;
 void sink(long value) { sum = sum * 31 + (unsigned long)value; }
@@ -69,9 +77,10 @@ class Group:
         for program in self.programs:
             program.found = Oracle(program).run()
         (self.folder / "sink.c").write_text(SINK)
-        harness.run(["gcc", "-c", "sink.c", "-o", "sink.o"], self.folder)
-        compiled = harness.compile(self.given.wrappers, [source, "sink.o"], "p", self.compiler, self.level, [], self.folder, self.runtime)
-        plain = harness.compile_plain(self.given.wrappers, [source, "sink.o"], "plain", self.compiler, self.level, [], self.folder)
+        harness.run([self.compiler, "-c", "sink.c", "-o", "sink.o"], self.folder)
+        how, sources = (self.compiler, self.level, FLAGS, self.folder), [source, "sink.o"]
+        compiled = harness.compile(self.given.wrappers, sources, "p", *how, self.runtime)
+        plain = harness.compile_plain(self.given.wrappers, sources, "plain", *how)
         for ran in compiled, plain:
             if ran.status:
                 self.failures.append(f"{self.name}: not compiled: {ran.errors[-600:]}")
@@ -88,7 +97,7 @@ class Group:
                     self.counts["recordings"] += 1
                     self.failures += [f"{self.name} seed {program.seed} {mode}: {it}" for it in said]
                 self.counts["programs"] += 1
-                self.counts["racy"] += bool(program.found.racy or program.found.reducers)
+                self.counts["racy"] += program.found.is_racy()
                 self.counts["locations"] += len(program.found.racy)
 
     def compare(self, program, mode, env):
@@ -103,53 +112,73 @@ class Group:
         self.counts["parts"] += len(traces) > 1
         plain = harness.run([self.folder / "plain", *words], self.folder)
         if ran.status or ran.output != plain.output:
-            return [f"status {ran.status}, {ran.output!r}, as plain C {plain.status}, {plain.output!r}: {ran.errors[-300:]}"]
+            said = "\n".join(it for it in ran.errors.splitlines() if not it.startswith("at "))[-300:]
+            return [f"status {ran.status}, {ran.output!r}, as plain C {plain.status}, {plain.output!r}: {said}"]
         at = {}
         for line in ran.errors.splitlines():
             if line.startswith("at "):
                 _, name, address, size = line.split()
                 at[name] = (int(address, 16), int(size))
-        if set(at) != set(program.globals):
+        if set(at) != set(program.globals()):
             return [f"the program told the places of {sorted(at)}"]
-        refusals, reducers = {}, set()
-        for number, trace in enumerate(verdicts.judged(traces, self.given.cilkcheck), 1):
-            for it in trace.refusals:
-                if it.rule in ("view-read", "unset"):
-                    reducers.add(it.rule)
-                else:
-                    refusals.setdefault((number, it.cell), []).append(it)
-        # Each refused cell's members race, by lines and a spawn that the oracle knows there; and each byte that races is among some cell's.
-        said, bytes_of_globals, bytes_of_lives, used = [], set(), set(), set()
-        for line in members.read_text().splitlines():
-            number, cell, address, life = line.split()
-            cell, address = (int(number), f"c[{cell}]"), int(address, 16)
-            if cell not in refusals:
-                continue
-            used.add(cell)
-            place = next(((name, address - first) for name, (first, size) in at.items() if first <= address < first + size), None)
-            if place:
-                bytes_of_globals.add(place)
+        judged = verdicts.judged(traces, self.given.cilkcheck)
+        return list(dict.fromkeys(differences(found, at, members.read_text(), judged)))[:4]
+
+
+def differences(found, at, members, judged):
+    """What a recording says otherwise than the oracle. `at`: the globals' addresses and sizes; `members`: which bytes
+    each cell stands for."""
+    refusals, reducers = {}, set()
+    for number, trace in enumerate(judged, 1):
+        for it in trace.refusals:
+            if it.rule in ("view-read", "unset"):
+                reducers.add(it.rule)
             else:
-                bytes_of_lives.add((address, int(life)))
-            known = found.racy.get(place, {}) if place else found.pairs_of_lives
-            for it in refusals[cell]:
-                pair = (it.earlier.line, it.later.line)
-                spawns = known.get(pair) or known.get(pair[::-1])
-                if spawns is None:
-                    said.append(f"{it.rule} of lines {pair} at {place[0] if place else 'a local or block'}, which the oracle does not know")
-                elif it.spawn.line not in spawns:
-                    said.append(f"lines {pair} at {place[0] if place else 'a local or block'} part at {it.spawn.line}, by the oracle at {sorted(spawns)}")
-        if lost := set(refusals) - used:
-            said.append(f"no members of {sorted(lost)}")
-        wanted = {it for it in found.racy if isinstance(it[0], str)}
-        lives = len(found.racy) - len(wanted)
-        if bytes_of_globals != wanted:
-            said.append(f"races lost: {told(wanted - bytes_of_globals)}; races that are none: {told(bytes_of_globals - wanted)}")
-        if len(bytes_of_lives) != lives:
-            said.append(f"{len(bytes_of_lives)} bytes of locals and blocks, by the oracle {lives} ({told(it for it in found.racy if it not in wanted)})")
-        if bool(reducers) != bool(found.reducers):
-            said.append(f"reducers: {reducers or 'no race'}, by the oracle {found.reducers or 'none'}")
-        return list(dict.fromkeys(said))[:4]
+                refusals.setdefault((number, it.cell), []).append(it)
+    # Each refused cell's members race, by lines and a spawn that the oracle knows there; and each byte that races is
+    # among some cell's.
+    bytes_of_globals, bytes_of_lives, used, containers = set(), set(), set(), set()
+    for line in members.splitlines():
+        number, cell, address, life = line.split()
+        cell, address = (int(number), f"c[{cell}]"), int(address, 16)
+        if cell not in refusals:
+            continue
+        used.add(cell)
+        pair = lines_of(refusals[cell][0])
+        place = next(((name, address - it) for name, (it, size) in at.items() if it <= address < it + size), None)
+        container = next((name for name, pairs in found.uses.items() if pair in pairs), None)
+        if place:
+            bytes_of_globals.add(place)
+            known, where = found.racy.get(place, {}), place[0]
+        elif container:
+            containers.add(container)
+            known, where = found.uses[container], container
+        else:
+            bytes_of_lives.add((address, int(life)))
+            known, where = found.pairs_of_lives, "a local or block"
+        for it in refusals[cell]:
+            spawns = known.get(lines_of(it))
+            if spawns is None:
+                yield f"{it.rule} of lines {lines_of(it)} at {where}, which the oracle does not know"
+            elif it.spawn.line not in spawns:
+                yield f"lines {lines_of(it)} at {where} part at {it.spawn.line}, by the oracle at {sorted(spawns)}"
+    if lost := set(refusals) - used:
+        yield f"no members of {sorted(lost)}"
+    wanted = {it for it in found.racy if isinstance(it[0], str)}
+    lives = len(found.racy) - len(wanted)
+    if bytes_of_globals != wanted:
+        yield f"races lost: {told(wanted - bytes_of_globals)}; races that are none: {told(bytes_of_globals - wanted)}"
+    if len(bytes_of_lives) != lives:
+        known = told(it for it in found.racy if it not in wanted)
+        yield f"{len(bytes_of_lives)} bytes of locals and blocks, by the oracle {lives} ({known})"
+    if found.sure - containers:
+        yield f"races of uses lost: {sorted(found.sure - containers)}"
+    if bool(reducers) != bool(found.reducers):
+        yield f"reducers: {reducers or 'no race'}, by the oracle {found.reducers or 'none'}"
+
+
+def lines_of(refusal):
+    return refusal.earlier.line, refusal.later.line
 
 
 def check(job):
@@ -167,7 +196,7 @@ def main():
     parser.add_argument("--count", type=int, default=300)
     parser.add_argument("--seed", type=int, default=1)
     parser.add_argument("--compilers", nargs="*", default=harness.COMPILERS)
-    parser.add_argument("--only", nargs="*", default=[], help="of the groups those whose names begin so, as clang-O2 or clang-O0-c++")
+    parser.add_argument("--only", nargs="*", default=[], help="groups by the beginning of their names: clang-O0-c++")
     parser.add_argument("--keep", help="a folder in which sources and programs stay")
     parser.add_argument("--expect-racy", type=int, help="how many programs the oracle has to find racy")
     given = parser.parse_args()
@@ -177,11 +206,12 @@ def main():
     runtime = harness.RECORDER / "runtime"
     failures, counts = [], Counter()
     with tempfile.TemporaryDirectory(prefix="cilkcheck-fuzz-") as room:
-        # (These programs are small: for most of them a runtime is built that tells the states in use from the others after each strand, or that
-        # settles what is loose of a state at once.)
+        # (These programs are small: for most of them a runtime is built that tells the states in use from the others
+        # after each strand, or that settles what is loose of a state at once.)
         builds = {"often": "-DCOLLECT_AFTER=1", "at-once": "-DMOST_LOOSE=1u"}
         for name, option in builds.items():
-            subprocess.run(["make", "-s", "-j2", "-C", runtime, f"OUT={room}/{name}", f"CFLAGS=-O2 -g {option}", f"{room}/{name}/cilkcheck-runtime.o"], env=harness.ENVIRONMENT, check=True)
+            words = [f"OUT={room}/{name}", f"CFLAGS=-O2 -g {option}", f"{room}/{name}/cilkcheck-runtime.o"]
+            subprocess.run(["make", "-s", "-j2", "-C", runtime, *words], env=harness.ENVIRONMENT, check=True)
         jobs = []
         for k, first in enumerate(range(given.seed, given.seed + given.count, EACH)):
             level, compiler, cxx = combinations[k % len(combinations)]
@@ -196,7 +226,9 @@ def main():
                 counts += counted
                 for it in found:
                     print(it, flush=True)
-    print(f"fuzz: {counts['programs']} programs, {counts['racy']} of them racy at {counts['locations']} bytes, {counts['recordings'] - counts['refused']} recordings held against the oracle, {counts['parts']} of them in parts")
+    print(f"fuzz: {counts['programs']} programs, {counts['racy']} of them racy at {counts['locations']} bytes, "
+          f"{counts['recordings'] - counts['refused']} recordings held against the oracle, "
+          f"{counts['parts']} of them in parts")
     if given.expect_racy is not None and counts["racy"] != given.expect_racy:
         failures.append(print(f"fuzz: {given.expect_racy} racy programs were expected"))
     if given.expect is not None and counts["programs"] != given.expect:

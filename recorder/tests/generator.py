@@ -1,27 +1,36 @@
-"""Draws random fork-join programs, and writes them as C or C++. A program is a tree of statements, which oracle.py interprets.
+"""Draws random fork-join programs, and writes them as C or C++. A program is a tree of statements (grammar/), which
+oracle.py interprets.
 
-No statement uses a pointer into a frame or block that has ended in the serial order, reads memory that was not set, or shares the index of a plain
-loop with a child: what is drawn has defined behavior but for its races.
+No statement uses a pointer into a frame or block that has ended in the serial order, reads memory that was not set, or
+shares the index of a plain loop with a child: what is drawn has defined behavior but for its races (with -fwrapv).
 """
 import random
 
+from grammar.accesses import ACCESSES, STRUCT_HEADER, Modify, Write
+from grammar.control import CONTROL
+from grammar.cxx import CXX, CXX_HEADER, LINES, Method
+from grammar.drawing import Drawing, Here, Lines
+from grammar.frames import Frames
+from grammar.libc import COMPARE_LINES, LIBC, SORT_HEADER, TEXT, TEXT_SIZE
+from grammar.places import (BITS, CHAR, INT, LONG, PACKED, SHORT, STRUCT, TYPES_HEADER, UNION, WIDE, WRITE, Base,
+                            Element, Pointer, Table)
+from grammar.strands import STRANDS, SpawnedBlock, Sync
 
-class Type:
-    def __init__(self, name, size, fields=()):
-        self.name, self.size, self.fields = name, size, dict(fields)
-
-
-CHAR, SHORT, INT, LONG = Type("char", 1), Type("short", 2), Type("int", 4), Type("long", 8)
-SCALARS = [CHAR, SHORT, INT, LONG]
-STRUCT = Type("struct five", 16, {"d": (LONG, 0), "c": (INT, 8), "b": (SHORT, 12), "a": (CHAR, 14), "e": (CHAR, 15)})
-GLOBALS = {"c": (CHAR, 6), "s": (SHORT, 4), "i": (INT, 4), "l": (LONG, 3), "t": (STRUCT, 3)}
-HEADER = """#include <cilk/cilk.h>
+GLOBALS = {
+    "c": (CHAR, 6), "s": (SHORT, 4), "i": (INT, 4), "l": (LONG, 3), "w": (WIDE, 3),
+    "t": (STRUCT, 3), "u": (UNION, 3), "k": (PACKED, 3), "b": (BITS, 3),
+}
+HEADER = [*"""\
+#include <cilk/cilk.h>
 #include <cilk/reducer.h>
 #include <cilk/reducer_opadd.h>
 #include <stdio.h>
 #include <stdlib.h>
 #include <string.h>
 #ifdef __cplusplus
+#include <map>
+#include <string>
+#include <vector>
 extern "C" {
 #endif
 void sink(long value);
@@ -29,51 +38,60 @@ unsigned long sunk(void);
 #ifdef __cplusplus
 }
 #endif
-struct five {
-  long d; int c; short b; char a; char e;
-#ifdef __cplusplus
-  int add(int k) {
-    c += k;
-    return k;
-  }
-#endif
-};
-#define AT(name) fprintf(stderr, "at %s %p %zu\\n", #name, (void *)name, sizeof name)""".split("\n")
-METHOD_LINE = HEADER.index("    c += k;") + 1
-CONDITIONS = {"n > 0": lambda n: n > 0, "n % 2 == 0": lambda n: n % 2 == 0, "n == 2": lambda n: n == 2}
+#define AT(name) fprintf(stderr, "at %s %p %zu\\n", #name, (void *)&name, sizeof name)
+#define SPAWN(call) cilk_spawn call
+#define SPAWN_TO(to, call) to = cilk_spawn call
+#define SPAWN_IF(condition, call) if (condition) cilk_spawn call
+#define SYNC cilk_sync""".split("\n"),
+          *TYPES_HEADER, *STRUCT_HEADER, *SORT_HEADER, "#ifdef __cplusplus", *CXX_HEADER, "#endif"]
+for type_name in "int", "long":
+    COMPARE_LINES[type_name] = HEADER.index(f"static int by_{type_name}(const void *a, const void *b) {{") + 2
+LINES.update({"five::add": HEADER.index("    c += k;") + 1, "~guard": HEADER.index("    *at += 1;") + 1,
+              "raised": HEADER.index("  x += k;") + 1, "square::add": HEADER.index("    c -= k;") + 1})
+LINES["shape::add"] = LINES["square::add"] - 5
+STATEMENTS = [*ACCESSES, *LIBC, *CONTROL, *STRANDS, *CXX]
+RESULT = "return 1;"
 
 
-class Base:
-    """What holds elements that a statement may name."""
+class Local:
+    """A local of a function: plain, static, of two dimensions, or of a length that its argument says."""
 
-    def __init__(self, name, type_, count, reference=False):
-        self.name, self.type, self.count, self.reference = name, type_, count, reference
+    def __init__(self, base, kind):
+        self.base, self.kind = base, kind
+        self.line = None
 
+    def write(self, out):
+        it = self.base
+        count = f"2][{it.columns}" if self.kind == "table" else f"n + {it.count}" if self.kind == "length" else it.count
+        out.line(f"{'static ' * (self.kind == 'static')}{it.type.name} {it.name}[{count}];")
+        if self.kind != "static":
+            self.line = out.line(f"memset({it.name}, 0, sizeof {it.name});")
 
-class Place:
-    """An element of a base, or a field of one. The index is a number or the name of a loop's index."""
-
-    def __init__(self, base, index, field=None):
-        self.name, self.index, self.type = base.name, index, base.type
-        self.field_type, self.offset = base.type.fields[field] if field else (base.type, 0)
-        self.size = self.field_type.size
-        self.text = (base.name if base.reference else f"{base.name}[{index}]") + (f".{field}" if field else "")
-
-
-class Statement:
-    def __init__(self, kind, **parts):
-        self.kind = kind
-        self.place = self.other = self.declares = self.own = None
-        self.__dict__.update(parts)
-
-    def n_of(self, n):
-        return n - 1 if self.callee_n is None else self.callee_n
+    def begin_life(self, oracle, frame, n):
+        if self.kind == "static":
+            if self.base.name not in oracle.statics:
+                oracle.statics[self.base.name] = oracle.life()
+            frame.names[self.base.name] = oracle.statics[self.base.name]
+            return
+        frame.names[self.base.name] = oracle.life()
+        count = self.base.count + n * (self.kind == "length")
+        oracle.access(frame, frame.names[self.base.name], self.base.type.size * count, WRITE, self.line)
 
 
 class Function:
-    def __init__(self, name, number, type_, extent, reference):
-        self.name, self.number, self.parameter = name, number, Base("p", type_, extent, reference)
+    def __init__(self, name, number, type_, extent, is_reference):
+        self.name, self.number, self.parameter = name, number, Base("p", type_, extent, is_reference)
         self.locals, self.body, self.throws = [], [], False
+
+    def signature(self):
+        """Its type, with a place for the name."""
+        return f"int {{}}({self.parameter.type.name} {'&' if self.parameter.is_single else '*'}, int)"
+
+    def head(self):
+        return f"static int {self.name}({self.parameter.type.name} {'&' if self.parameter.is_single else '*'}p, int n)"
+
+    def own(self, bases):
+        self.locals += [Local(it, "plain") for it in bases]
 
 
 class Program:
@@ -83,371 +101,102 @@ class Program:
         self.prefix = f"p{seed}_"
         self.calm = self.random.random() < 0.35
         self.bases = [Base(self.prefix + name, type_, count) for name, (type_, count) in GLOBALS.items()]
-        self.globals = [it.name for it in self.bases]
+        self.bases.append(Table(self.prefix + "m", INT, 2, 3))
+        pointer = Pointer(self.prefix + "q", INT, 2, [it for it in self.bases if it.type is INT])
+        self.bases.append(pointer)
+        self.draw = Drawing(self.random, self.bases)
         self.reducers = [f"{self.prefix}r{k}" for k in range(2)] if self.random.random() < 0.4 else []
-        self.unique = 0
         self.first_n = 2
-        self.functions = []
-        for number in range(self.random.randint(2, 5)):
-            type_ = self.random.choice([*SCALARS, INT, STRUCT])
-            extent = self.random.randint(1, 3)
-            reference = cxx and extent == 1 and self.random.random() < 0.5
-            self.functions.append(Function(f"{self.prefix}f{number}", number, type_, extent, reference))
-        for function in self.functions:
-            function.throws = cxx and function.number > 0 and self.random.random() < 0.15
+        self.functions = [self.function(k) for k in range(self.random.randint(2, 5))]
+        self.pointed = self.alike()
+        self.statements = [it for it in STATEMENTS if it.only in (None, "c++" if cxx else "c")]
         for function in self.functions:
             self.fill(function)
-        self.start = Place(next(it for it in self.bases if it.type is self.functions[0].parameter.type), 0)
-        Frames(self, random.Random(f"frames {seed} {draw}")).add()
+        self.start = Element(next(it for it in self.bases if it.type is self.functions[0].parameter.type), 0)
+        frames = Function(f"{self.prefix}frames", len(self.functions), INT, 1, False)
+        Frames(self, random.Random(f"frames {seed} {draw}"), frames).add()
 
-    # drawing
-    def name(self, letter):
-        self.unique += 1
-        return f"{letter}{self.unique}"
+    def globals(self):
+        return [*(it.name for it in self.bases), self.prefix + "text", self.prefix + "next",
+                *(f"{self.prefix}v{k}" for k in range(2) if self.cxx)]
+
+    def function(self, number):
+        extent = self.random.randint(1, 3)
+        is_reference = self.cxx and extent == 1 and self.random.random() < 0.5
+        made = Function(f"{self.prefix}f{number}", number, self.draw.type(), extent, is_reference)
+        made.throws = self.cxx and number > 0 and self.random.random() < 0.2
+        return made
+
+    def alike(self):
+        """The functions to which the program's own pointer may lead: of one type, behind those that call by it."""
+        last = self.functions[-1]
+        if last.throws or last.parameter.is_single:
+            return []
+        return [it for it in self.functions[1:] if it.signature() == last.signature() and not it.throws]
 
     def fill(self, function):
-        scope = [function.parameter]
+        here = Here(function, [function.parameter], throws=function.throws)
         for _ in range(self.random.randint(0, 3)):
-            base = Base(self.name("x"), self.random.choice([*SCALARS, INT, STRUCT]), self.random.randint(1, 3))
-            function.locals.append([base.name, base.type, base.count, 0])
-            scope.append(base)
-        function.body = self.block(function, scope, {}, 0, self.random.randint(3, 7))
+            kind = self.random.choice(["plain"] * 5 + ["static", "table", "length"])
+            name, type_, count = self.draw.name("x"), self.draw.type(), self.random.randint(1, 3)
+            base = Table(name, type_, 2, count) if kind == "table" else Base(name, type_, count)
+            function.locals.append(Local(base, kind))
+            here.scope.append(base)
+        function.body = self.block(here, self.random.randint(3, 7))
 
-    def base(self, scope, wanted=lambda base: True):
-        ours = [it for it in scope if wanted(it)]
-        return self.random.choice(ours) if ours and self.random.random() < 0.6 else self.random.choice([it for it in self.bases if wanted(it)])
+    def callees(self, here, throwing):
+        return [it for it in self.functions[here.function.number + 1:] if throwing or not it.throws]
 
-    def element(self, base, indices, extent=1):
-        usable = [name for name, count in indices.items() if count + extent - 1 <= base.count and not base.reference]
-        return self.random.choice(usable) if usable and self.random.random() < 0.7 else self.random.randint(0, base.count - extent)
-
-    def scalar(self, scope, indices):
-        base = self.base(scope)
-        return Place(base, self.element(base, indices), self.random.choice(list(base.type.fields)) if base.type.fields else None)
-
-    def whole(self, scope, indices, type_=None):
-        base = self.base(scope, (lambda it: it.type is type_) if type_ else lambda it: True)
-        return Place(base, self.element(base, indices))
-
-    def argument(self, function, scope, indices):
-        """A place that this function takes: so many elements of its type, or a field."""
-        wanted = function.parameter
-        if wanted.count == 1 and wanted.type is not STRUCT and self.random.random() < 0.3:
-            base = self.base(scope, lambda it: it.type is STRUCT)
-            return Place(base, self.element(base, indices), next(name for name, (type_, _) in STRUCT.fields.items() if type_ is wanted.type))
-        base = self.base(scope, lambda it: it.type is wanted.type and it.count >= wanted.count)
-        return Place(base, self.element(base, indices, wanted.count))
-
-    def callee(self, function, throwing=False):
-        later = [it for it in self.functions[function.number + 1:] if throwing or not it.throws]
+    def callee(self, here, throwing):
+        later = self.callees(here, throwing)
         return self.random.choice(later) if later else None
 
-    def block(self, function, scope, indices, depth, count, inner=False):
-        """Statements. `inner`: inside of a child or a loop, where no name is declared and nothing returned."""
-        scope, found = list(scope), []
+    def argument(self, function, here):
+        return self.draw.argument(function.parameter, here)
+
+    def block(self, here, count):
+        """Statements; what one of them declares is in scope behind it."""
+        here, found = here.deeper(depth=here.depth), []
+        weights = [it.weight for it in self.statements]
         for _ in range(count):
-            it = self.statement(function, scope, indices, depth, inner)
+            it = self.random.choices(self.statements, weights)[0].draw(self, here)
             if it:
                 found.append(it)
-                if it.declares:
-                    scope.append(Base(it.declares, LONG, 1, reference=True))
-                if self.calm and it.kind in ("spawn", "block", "method", "write", "modify") and self.random.random() < 0.75:
-                    found.append(Statement("sync"))
+                here.scope += it.declared
+                makes = isinstance(it, (SpawnedBlock, Method, Write, Modify)) or getattr(it, "is_spawned", False)
+                if self.calm and makes and self.random.random() < 0.75:
+                    found.append(Sync())
         return found
 
-    def statement(self, function, scope, indices, depth, inner):
-        draw, nested = self.random.random, depth < 2
-        kind = self.random.choices(
-            ["write", "read", "modify", "copy", "fill", "move", "load", "update", "call", "spawn", "spawn to", "declare", "method", "sync", "block", "loop", "cilk_for", "scope", "choose", "again", "heap", "leave", "reduce"],
-            [8, 8, 5, 3, 2, 2, 2, 2, 6, 11, 7, 3, 4, 8, 5, 5, 5, 3, 3, 4, 4, 1, 6 if self.reducers else 0])[0]
-        if kind in ("write", "read", "modify"):
-            return Statement(kind, place=self.scalar(scope, indices), value=self.random.randint(1, 9))
-        if kind == "copy":
-            # not into a local that may not be used behind it: above -O0 the compiler leaves out what is read for it
-            seen = [function.parameter]
-            one = self.whole(seen, indices) if draw() < 0.5 else self.scalar(seen, indices)
-            other = self.whole(scope, indices, one.field_type) if one.field_type is STRUCT else self.scalar(scope, indices)
-            return Statement(kind, place=one, other=other) if one.name != other.name else None
-        if kind in ("fill", "move"):
-            base = self.base(scope)
-            extent = self.random.randint(1, base.count)
-            one = Place(base, self.element(base, indices, extent))
-            if kind == "fill":
-                return Statement(kind, place=one, count=extent, value=self.random.randint(0, 9))
-            other = self.base(scope, lambda it: it.type is base.type and it.count >= extent)
-            # two bases may be one memory where a parameter is among them; memmove allows that
-            return Statement(kind, place=one, other=Place(other, self.element(other, indices, extent)), count=extent) if other.name != base.name else None
-        if kind in ("load", "update"):
-            base = self.base(scope, lambda it: it.type in (INT, LONG))
-            return Statement(kind, place=Place(base, self.element(base, indices)), way=self.random.choice(["add", "store", "exchange"]))
-        if kind in ("call", "spawn", "spawn to", "declare"):
-            callee = self.callee(function, kind == "call")
-            if not callee or kind == "declare" and (inner or depth):
-                return None
-            parts = dict(callee=callee.number, callee_n=self.random.randint(0, 2), place=self.argument(callee, scope, indices))
-            if kind == "call":
-                other = self.scalar(scope, indices) if draw() < 0.4 and not callee.throws else None
-                return Statement("call", other=other, **parts)
-            if kind == "declare":
-                return Statement("spawn", declares=self.name("y"), result_size=8, **parts)
-            other = self.scalar(scope, indices) if kind == "spawn to" else None
-            return Statement("spawn", other=other, result_size=other.size if other else 0, **parts)
-        if kind == "method":
-            base = self.base(scope, lambda it: it.type is STRUCT)
-            return Statement(kind, place=Place(base, self.element(base, indices)), spawned=draw() < 0.8, field_offset=8, field_size=4, method_line=METHOD_LINE) if self.cxx else None
-        if kind == "sync":
-            return Statement(kind)
-        if kind == "reduce":
-            return Statement(kind, name=self.random.choice(self.reducers), operation=self.random.choice(["update", "update", "get", "get", "put"]))
-        if kind == "leave":
-            return None if inner or depth != 1 else Statement(kind, place=self.scalar(scope, indices) if draw() < 0.6 else None)
-        if kind == "choose" and not inner and nested:
-            text = self.random.choice(list(CONDITIONS))
-            return Statement(kind, text=text, holds=CONDITIONS[text], body=self.block(function, scope, indices, depth + 1, self.random.randint(1, 3)), otherwise=self.block(function, scope, indices, depth + 1, 1) if draw() < 0.4 else [])
-        if kind == "again" and not function.throws:
-            parts = dict(callee=function.number, callee_n=None, place=self.argument(function, scope, indices))
-            it = Statement("spawn", result_size=0, **parts) if draw() < 0.6 else Statement("call", **parts)
-            return Statement("choose", text="n > 0", holds=CONDITIONS["n > 0"], body=[it], otherwise=[])
-        if not nested:
-            return None
-        if kind in ("block", "cilk_for"):
-            index, rounds = (self.name("k"), self.random.randint(2, 3)) if kind == "cilk_for" else (None, 0)
-            type_, own = self.random.choice(SCALARS), self.name("own") if draw() < 0.6 else None
-            inside = [*scope, *([Base(own, type_, 1, reference=True)] if own else [])]
-            body = self.block(function, inside, {index: rounds} if index else {}, depth + 1, self.random.randint(1, 3), True)
-            return Statement(kind, index=index, count=rounds, own=own, own_type=type_, own_size=type_.size, body=body, lambda_=self.cxx and draw() < 0.6)
-        if kind == "loop":
-            index, rounds = self.name("k"), self.random.randint(2, 3)
-            return Statement(kind, index=index, count=rounds, body=self.block(function, scope, {**indices, index: rounds}, depth + 1, self.random.randint(1, 3), True))
-        if kind == "scope":
-            return Statement(kind, body=self.block(function, scope, indices, depth + 1, self.random.randint(1, 3), True))
-        if kind == "heap":
-            base = Base(self.name("h"), self.random.choice([*SCALARS, INT, STRUCT]), self.random.randint(1, 3))
-            body = self.block(function, [*scope, base], indices, depth + 1, self.random.randint(2, 4), True)
-            return Statement(kind, name=base.name, type=base.type, count=base.count, size=base.type.size * base.count, body=body, freed=draw() < 0.8)
-        return None
-
-    # writing
     def write(self, lines):
-        self.lines = lines
-        for base, (name, (type_, count)) in zip(self.bases, GLOBALS.items()):
-            lines.append(f"static {type_.name} {base.name}[{count}];")
+        out = Lines(lines)
+        for base in self.bases:
+            if isinstance(base, Pointer):
+                out.line(f"static {base.type.name} *{base.name} = {base.targets[0].name};")
+            elif isinstance(base, Table):
+                out.line(f"static {base.type.name} {base.name}[{base.count // base.columns}][{base.columns}];")
+            else:
+                out.line(f"static {base.type.name} {base.name}[{base.count}];")
+        out.line(f"static char {self.prefix}text[{TEXT_SIZE}] = \"{TEXT}\";")
+        if self.cxx:
+            it = self.prefix
+            out.line(f"static shape {it}v0; static square {it}v1;")
+            out.line(f"static shape *const {it}shapes[2] = {{&{it}v0, &{it}v1}};")
+            out.line(f"static std::string {it}string; static std::map<int, int> {it}map;")
         for name in self.reducers:
-            lines.append(f"static cilk::reducer<cilk::op_add<long>> {name}(0);" if self.cxx else f"static CILK_C_REDUCER_OPADD({name}, long, 0);")
+            made = "cilk::reducer<cilk::op_add<long>> {}(0);" if self.cxx else "CILK_C_REDUCER_OPADD({}, long, 0);"
+            out.line("static " + made.format(name))
         for function in self.functions:
-            lines.append(self.head(function) + ";")
+            out.line(function.head() + ";")
+        one = self.pointed[0] if self.pointed else self.functions[-1]
+        out.line(f"static {one.signature().format(f'(*{self.prefix}next)')} = {one.name};")
         for function in self.functions:
-            lines.append(self.head(function) + " {")
-            lines.append("(void)n;")
-            for it in function.locals:
-                lines.append(f"{it[1].name} {it[0]}[{it[2]}];")
-                lines.append(f"memset({it[0]}, 0, sizeof {it[0]});")
-                it[3] = len(lines)
-            self.write_all(function.body)
-            lines.append("throw 1;" if function.throws else "return 1;")
-            lines.append("}")
-
-    def head(self, function):
-        it = function.parameter
-        return f"static int {function.name}({it.type.name} {'&' if it.reference else '*'}p, int n)"
-
-    def line(self, text):
-        self.lines.append(text)
-        return len(self.lines)
-
-    def write_all(self, statements):
-        for it in statements:
-            getattr(self, "write_" + it.kind)(it)
-
-    def write_write(self, it):
-        it.line = self.line(f"{it.place.text} = {it.value};")
-
-    def write_read(self, it):
-        it.line = self.line(f"sink({it.place.text});")
-
-    def write_modify(self, it):
-        it.line = self.line(f"{it.place.text} += {it.value};")
-
-    def write_copy(self, it):
-        it.line = self.line(f"{it.place.text} = {it.other.text};")
-
-    def write_fill(self, it):
-        it.line = self.line(f"memset(&{it.place.text}, {it.value}, {it.count} * sizeof {it.place.text});")
-
-    def write_move(self, it):
-        it.line = self.line(f"memmove(&{it.place.text}, &{it.other.text}, {it.count} * sizeof {it.place.text});")
-
-    def write_load(self, it):
-        it.line = self.line(f"sink(__atomic_load_n(&{it.place.text}, __ATOMIC_ACQUIRE));")
-
-    def write_update(self, it):
-        at = it.place.text
-        it.line = self.line({"add": f"__atomic_fetch_add(&{at}, 3, __ATOMIC_SEQ_CST);", "store": f"__atomic_store_n(&{at}, 4, __ATOMIC_RELEASE);", "exchange": f"sink(__atomic_exchange_n(&{at}, 5, __ATOMIC_SEQ_CST));"}[it.way])
-
-    def call_text(self, it):
-        function = self.functions[it.callee]
-        return f"{function.name}({'' if function.parameter.reference else '&'}{it.place.text}, {'n - 1' if it.callee_n is None else it.callee_n})"
-
-    def write_call(self, it):
-        text = self.call_text(it)
-        if self.functions[it.callee].throws:
-            it.line = self.line(f"try {{ {text}; }} catch (int) {{ }}")
-        else:
-            it.line = self.line(f"{it.other.text} = {text};" if it.other else f"{text};")
-
-    def write_spawn(self, it):
-        to = f"long {it.declares} = " if it.declares else f"{it.other.text} = " if it.other else ""
-        it.line = self.line(f"{to}cilk_spawn {self.call_text(it)};")
-
-    def write_method(self, it):
-        it.line = self.line(f"{'cilk_spawn ' * it.spawned}{it.place.text}.add(2);")
-
-    def write_sync(self, it):
-        it.line = self.line("cilk_sync;")
-
-    def write_block(self, it):
-        it.line = self.line("cilk_spawn [&] {" if it.lambda_ else "cilk_spawn {")
-        self.write_own(it)
-        self.line("}();" if it.lambda_ else "}")
-
-    def write_own(self, it):
-        if it.own:
-            it.own_line = self.line(f"{it.own_type.name} {it.own} = 0;")
-        self.write_all(it.body)
-
-    def write_loop(self, it):
-        it.line = self.line(f"for (int {it.index} = 0; {it.index} < {it.count}; {it.index}++) {{")
-        self.write_all(it.body)
-        self.line("}")
-
-    def write_cilk_for(self, it):
-        it.line = self.line(f"cilk_for (int {it.index} = 0; {it.index} < {it.count}; {it.index}++) {{")
-        self.write_own(it)
-        self.line("}")
-
-    def write_scope(self, it):
-        it.line = self.line("cilk_scope {")
-        self.write_all(it.body)
-        self.line("}")
-
-    def write_choose(self, it):
-        it.line = self.line(f"if ({it.text}) {{")
-        self.write_all(it.body)
-        if it.otherwise:
-            self.line("} else {")
-            self.write_all(it.otherwise)
-        self.line("}")
-
-    def write_either(self, it):
-        held, texts = self.lines, []
-        for branch in it.body, it.otherwise:
-            self.lines = []
-            self.write_all(branch)
-            texts.append(" ".join(self.lines))
-        self.lines = held
-        it.line = self.line(f"if ({it.text}) {{ {texts[0]} }} else {{ {texts[1]} }}")
-        for inner in [*it.body, *it.otherwise]:
-            for one in [inner, *getattr(inner, "body", [])]:
-                one.line = it.line
-
-    def write_heap(self, it):
-        size = f"{it.count} * sizeof({it.type.name})"
-        self.line("{")
-        it.line = self.line(f"{it.type.name} *{it.name} = ({it.type.name} *)calloc(1, {size});")
-        self.write_all(it.body)
-        if it.freed:
-            it.free_line = self.line(f"free({it.name});")
-        self.line("}")
-
-    def write_leave(self, it):
-        it.line = self.line(f"return (int){it.place.text};" if it.place else "return 2;")
-
-    def write_reduce(self, it):
-        texts = (f"*{it.name} += 2;", f"sink({it.name}.get_value());", f"{it.name}.set_value(5);") if self.cxx else (f"REDUCER_VIEW({it.name}) += 2;", f"sink(REDUCER_GET({it.name}));", f"REDUCER_PUT({it.name}, 5);")
-        it.line = self.line(texts[("update", "get", "put").index(it.operation)])
-
-
-class Frames:
-    """Adds to a program a function that calls and spawns itself, so that there are many frames alike but for where they lie; and at one depth a
-    statement does something else on the same line: it syncs or not, reads or writes, spawns or calls. So a race may be in few of the frames."""
-
-    def __init__(self, program, drawn):
-        self.program, self.random = program, drawn
-        self.function = Function(f"{program.prefix}frames", len(program.functions), INT, 1, False)
-        self.own = [Base(program.name("x"), INT, 2), Base(program.name("x"), LONG, 1)]
-        self.function.locals = [[it.name, it.type, it.count, 0] for it in self.own]
-        self.calls = 0
-
-    def add(self):
-        function, program = self.function, self.program
-        function.body = [self.access(self.random.choice(["read", "write", "modify"]), Place(function.parameter, 0))]
-        for _ in range(self.random.randint(2, 4)):
-            function.body += self.statements()
-        program.functions.append(function)
-        n = {0: 3, 1: 6, 2: 4}.get(self.calls, 3)
-        call = Statement("call", callee=function.number, callee_n=n, place=Place(next(it for it in program.bases if it.type is INT), 0))
-        body = program.functions[0].body
-        body.insert(self.random.choice([0, len(body)]), call)
-
-    def place(self):
-        base = self.random.choice([self.own[0], self.own[0], self.own[1], self.function.parameter])
-        return Place(base, self.random.randint(0, base.count - 1))
-
-    def access(self, kind, place):
-        return Statement(kind, place=place, value=self.random.randint(1, 9), way="add")
-
-    def block(self, *body):
-        return Statement("block", index=None, count=0, own=None, own_type=INT, own_size=4, body=list(body), lambda_=False)
-
-    def again(self, spawned, argument, result):
-        parts = dict(callee=self.function.number, callee_n=None, place=argument, other=result)
-        return Statement("spawn", result_size=result.size if result else 0, **parts) if spawned else Statement("call", **parts)
-
-    def guarded(self, *body):
-        return Statement("choose", text="n > 0", holds=CONDITIONS["n > 0"], body=list(body), otherwise=[])
-
-    def statements(self):
-        kind = self.random.choice(["again", "sync", "access", "block", "idle", "either", "either", "either", "either", *(["reduce"] if self.program.reducers else [])])
-        if kind == "either":
-            # what comes before and behind it is mostly there, so that what differs is a race or none
-            before, one, behind = self.either()
-            return [*(before if self.random.random() < 0.8 else []), one, *(behind if self.random.random() < 0.8 else []), *([Statement("sync")] if self.random.random() < 0.7 else [])]
-        if kind == "again":
-            self.calls += 1
-            result = Place(self.own[0], self.random.randint(0, 1)) if self.random.random() < 0.6 else None
-            return [self.guarded(self.again(self.random.random() < 0.7, Place(self.own[0], self.random.randint(0, 1)), result))]
-        if kind == "sync":
-            return [Statement("sync")]
-        if kind == "idle":
-            return [self.block()]
-        if kind == "reduce":
-            return [Statement("reduce", name=self.random.choice(self.program.reducers), operation=self.random.choice(["get", "put", "update"]))]
-        one = self.access(self.random.choice(["read", "write", "modify", "load", "update"]), self.place())
-        return [self.block(one) if kind == "block" else one]
-
-    def either(self):
-        place, k = self.place(), self.random.randint(1, 3)
-        read, write = self.access("read", place), self.access(self.random.choice(["write", "modify", "update"]), place)
-        draw = self.random.choice(["sync", "kind", "kind of a child", "child", "call", "call", "place"])
-        before, behind = [], []
-        if draw == "sync":
-            before, pair, behind = [self.block(write)], [[Statement("sync")], []], [read]
-        elif draw == "kind":
-            before, pair = [self.block(self.access("read", place))], [[read], [write]]
-        elif draw == "kind of a child":
-            pair, behind = [[self.block(read)], [self.block(write)]], [self.access("read", place)]
-        elif draw == "child":
-            pair, behind = [[self.block(write)], [self.access(write.kind, place)]], [read]
-        elif draw == "call":
-            self.calls += 1
-            argument = Place(self.own[0], 0)
-            pair, behind = [[self.again(it, argument, None)] for it in (True, False)], [self.access(self.random.choice(["read", "write"]), argument)]
-        else:
-            places = [Place(self.own[0], it) for it in (0, 1)]
-            before, pair = [self.block(self.access("write", places[0]))], [[self.access("read", it)] for it in places]
-        self.random.shuffle(pair)
-        it = Statement("either", text=f"n == {k}", holds=lambda n: n == k, body=pair[0], otherwise=pair[1])
-        return before, self.guarded(it) if draw == "call" else it, behind
+            out.line(function.head() + " {")
+            out.line("(void)n;")
+            out.all(function.locals)
+            out.all(function.body)
+            out.line("throw 1;" if function.throws else RESULT)
+            out.line("}")
 
 
 def main_of(programs):
@@ -456,17 +205,24 @@ def main_of(programs):
     yield "  switch (argc > 1 ? atoi(argv[1]) : 0) {"
     for program in programs:
         yield f"  case {program.seed}:"
-        for base in program.bases:
-            yield f"    AT({base.name});"
+        for name in program.globals():
+            yield f"    AT({name});"
         for name in program.reducers:
             if not program.cxx:
                 yield f"    CILK_C_REGISTER_REDUCER({name});"
         first = program.functions[0]
-        yield f"    {first.name}({'' if first.parameter.reference else '&'}{program.start.text}, {program.first_n});"
+        yield f"    {first.name}({'' if first.parameter.is_single else '&'}{program.start.text}, {program.first_n});"
         for name in program.reducers:
             yield f"    sink({name}.get_value());" if program.cxx else f"    sink(REDUCER_GET({name}));"
         for base in program.bases:
-            yield f"    for (int k = 0; k < {base.count}; k++) sink({base.name}[k]{'.c' if base.type is STRUCT else ''});"
+            if isinstance(base, Table):
+                yield f"    for (int k = 0; k < {base.count}; k++) sink((&{base.name}[0][0])[k]);"
+            elif not isinstance(base, Pointer):
+                yield f"    for (int k = 0; k < {base.count}; k++) sink({base.name}[k]{base.type.shown});"
+        yield f"    for (int k = 0; k < {TEXT_SIZE}; k++) sink({program.prefix}text[k]);"
+        if program.cxx:
+            yield f"    sink({program.prefix}v0.c); sink({program.prefix}v1.c);"
+            yield f"    sink((long){program.prefix}string.size()); sink((long){program.prefix}map.size());"
         yield "    break;"
     yield "  }"
     yield '  printf("%lu\\n", sunk());'
