@@ -79,8 +79,9 @@ def sum_of(*files):
 
 
 def sources():
-    """The checksum of what the pass is built of."""
-    return sum_of(*sorted(it for it in PASS.iterdir() if it.suffix in (".cpp", ".h", ".c") or it.name == "Makefile"))
+    """The checksums of what the pass is built of, and of that with its canary."""
+    parts = sorted(it for it in PASS.iterdir() if it.suffix in (".cpp", ".h", ".c") or it.name == "Makefile")
+    return sum_of(*(it for it in parts if not it.name.startswith("canary"))), sum_of(*parts)
 
 
 def is_writable(folder):
@@ -110,10 +111,11 @@ def locked(folder):
 
 class Pass:
     """The pass for a compiler. A line of the file `trusted` says: of these sources this plugin was built, and by this compiler, which is of this
-    version, it tells each kind of access."""
+    version, it tells each kind of access. The canary is a program that has them all."""
 
     def __init__(self, compiler, session=None, places=None):
-        self.compiler, self.session, self.sources = compiler, session, sources()
+        self.compiler, self.session = compiler, session
+        self.sources, self.tests = sources()
         self.places = places or [PASS / "out", cache()]
 
     def trusted(self):
@@ -123,7 +125,7 @@ class Pass:
             with suppress(OSError):
                 for line in (place / TRUSTED).read_text(encoding="utf-8").splitlines():
                     of, plugin, version, told, title = line.split("\t")
-                    if (of, told) == (self.sources, identity):
+                    if (of, told) == (self.tests, identity):
                         for at in self.places:
                             built = at / version / PLUGIN
                             if built.exists() and sum_of(built) == plugin:
@@ -155,9 +157,9 @@ class Pass:
         compiler = self.compiler
         plugin = self.built() or self.build(place / compiler.version)
         self.tried(plugin, place)
-        line = "\t".join((self.sources, sum_of(plugin), compiler.version, compiler.identity, compiler.title))
+        line = "\t".join((self.tests, sum_of(plugin), compiler.version, compiler.identity, compiler.title))
         told = place / TRUSTED
-        old = [it for it in (told.read_text(encoding="utf-8").splitlines() if told.exists() else []) if it.startswith(self.sources)]
+        old = [it for it in (told.read_text(encoding="utf-8").splitlines() if told.exists() else []) if it.startswith(self.tests)]
         new = place / f"{TRUSTED}.{os.getpid()}"
         new.write_text("".join(f"{it}\n" for it in [*old, line]), encoding="utf-8")
         new.replace(told)
@@ -197,22 +199,28 @@ class Pass:
         return folder / PLUGIN
 
     def tried(self, plugin, place):
-        """Compiles and runs a program with each kind of access, which ends with status 0 where all of them are told."""
-        folder = place / f"canary-{os.getpid()}"
+        """Compiles and runs the canary, which ends with status 0 where all of its accesses are told. canary_hooks.c stands for the runtime."""
+        name, folder = f"clang {self.compiler.version} ({self.compiler.file})", self.session.name(place / f"canary-{os.getpid()}")
+        hooks, canary = PASS / "canary_hooks.c", PASS / "canary.c"
         try:
             folder.mkdir()
             for level in ("-O0", "-O2"):
-                words = [self.compiler.command, "-w", "-g", level, *flags(plugin), PASS / "canary.c", "-o", folder / "canary"]
-                how = {"stdin": subprocess.DEVNULL, "capture_output": True, "text": True, "errors": "replace", "timeout": 120}
-                made = subprocess.run([str(it) for it in words], env=environment(), **how)
-                ran = made if made.returncode else subprocess.run([folder / "canary"], **how)
-                if ran.returncode:
-                    said = next((it for it in (ran.stderr + ran.stdout).splitlines() if it.strip()), f"status {ran.returncode}")
-                    raise Failed(REFUSED, f"clang {self.compiler.version} ({self.compiler.file}) does not tell each access with the pass at {level}: {said}")
+                made, program = folder / "canary.o", folder / "canary"
+                clang = [self.compiler.command, "-w", "-g", "-gdwarf-4", level]
+                for words in ([*clang, *flags(plugin), "-c", canary, "-o", made], [*clang, made, hooks, "-o", program], [program]):
+                    status, said = self.tells(words, folder / "said")
+                    if status:
+                        raise Failed(REFUSED, f"{name} does not tell each access with the pass at {level}: {said}")
         except subprocess.TimeoutExpired:
-            raise Failed(REFUSED, f"clang {self.compiler.version} ({self.compiler.file}) does not compile the pass's test in 120 s") from None
-        finally:
-            shutil.rmtree(folder, ignore_errors=True)
+            raise Failed(REFUSED, f"{name} does not compile and run the canary of the pass in 120 s") from None
+
+    def tells(self, words, log):
+        """The status of a command, and the first line that it says."""
+        with open(log, "w+", encoding="utf-8", errors="replace") as out:
+            child = self.session.start(words, stdin=subprocess.DEVNULL, stdout=out, stderr=out, env=environment())
+            status = child.wait(120)
+            out.seek(0)
+            return status, next((it.strip() for it in out if it.strip()), f"status {status}")
 
 
 def flags(plugin):

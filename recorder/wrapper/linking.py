@@ -14,8 +14,6 @@ from .processes import Failed, Output, say
 from .sources import Source
 
 RUNTIME = RECORDER / "runtime"
-# Functions of the user's with a name of libc's are reached under the name that the pass gave to their calls.
-OWN = "\t.globl {wrapped}\n\t.type {wrapped}, @function\n{wrapped}:\n\tjmp {name}@PLT\n"
 # a row of pass/rows.h without a file: the note is the text
 NOTE = """\t.section cilkcheck_notes, "a", @progbits
 \t.balign 4
@@ -122,6 +120,21 @@ class Link:
             raise Failed(REFUSED, f"refused: {others[0]} was compiled by another version of cilkcheck-cc: compile it again")
         return objects.look(program, defined, "-r" in self.commands.for_linking())
 
+    def renamed(self, inputs, own):
+        """The inputs, in which the program's own functions with names of libc's have the names that the pass gave to their calls: those that the
+        runtime itself makes are of libc."""
+        names, out = Path(self.between("own")), []
+        names.write_text("".join(f"{it} {objects.WRAPPED}{it}\n" for it in own), encoding="ascii")
+        for at, it in enumerate(inputs):
+            files = [it.path] if isinstance(it, Input) else self.libraries(it)
+            if not files or ".so" in os.path.basename(files[0]) or not os.path.isfile(files[0]):
+                out += [it.path] if isinstance(it, Input) else it
+                continue
+            copy = self.between(f"own-{at}-{os.path.basename(files[0])}")
+            self.session.run(["objcopy", f"--redefine-syms={names}", files[0], copy], stdin=subprocess.DEVNULL)
+            out.append(copy)
+        return out
+
     def demangle(self, mangled):
         if not any(it.startswith("_Z") for it in mangled):
             return {it: it for it in mangled}
@@ -129,10 +142,8 @@ class Link:
         return dict(zip(mangled, lines)) if len(lines) == len(mangled) else {it: it for it in mangled}
 
     def note(self, seen, needs_cxx):
-        """An object with what is not seen, and with the program's own functions that bear names of libc's; or None."""
+        """An object with what is not seen, or None."""
         parts = [NEEDS_CXX] if needs_cxx else []
-        if seen.own:
-            parts += ["\t.text\n", *(OWN.format(wrapped=objects.WRAPPED + name, name=name) for name in seen.own)]
         if seen.unseen:
             text = f"not seen inside: {objects.told(seen.unseen, self.demangle)}"
             say(text)
@@ -160,7 +171,10 @@ class Link:
         cxx = self.cxx or any(it.is_cxx for it in sources)
         words = [word for it in inputs for word in ([it.path] if isinstance(it, Input) else it)]
         needs_cxx = not is_partial and (cxx or bool({"-lstdc++", "-lc++"} & set(words))) and not NO_CXX & set(options)
-        note = self.note(self.look(inputs, runtime), needs_cxx)
+        seen = self.look(inputs, runtime)
+        if seen.own and not is_partial:
+            words = self.renamed(inputs, seen.own)
+        note = self.note(seen, needs_cxx)
         if note:
             words.insert(0, note)
         if not is_partial:
