@@ -1,7 +1,8 @@
 #!/usr/bin/env python3
 """Small programs with what is expected of them, at three levels.
 
-    cases.py [--cilkcheck PATH] [--jobs N] [--expect N] [--compilers NAME..] [--chosen | --spread | --levels LEVEL..] [NAME..]
+    cases.py [--cilkcheck PATH] [--jobs N] [--expect N] [--compilers NAME..] [--chosen | --spread | --levels LEVEL..]
+             [NAME..]
 
 The first line of a case is a comment of parts between semicolons, the last one for the reader:
 
@@ -10,9 +11,11 @@ The first line of a case is a comment of parts between semicolons, the last one 
     expect: refused   by the wrapper or by the run: exit status 70, the line that says `refused`, no trace
     unseen: NAME      what is not seen is named, when the program is linked or run, and in the trace
     says: TEXT        is in the refusal
-    flags: ..         for the compiler; levels: all (with --chosen too); from: -O2; plain: no (the elision's output is not compared)
+    flags: ..         for the compiler; plain: no (the elision's output is not compared)
+    levels: all       with --chosen too; from: -O2
 
-A refusal must say `cilkcheck: refused: FILE:LINE: why`. Else the run's output and status must be those of the serial elision.
+A refusal must say `cilkcheck: refused: FILE:LINE: why`. Else the run's output and status must be those of the serial
+elision.
 """
 import itertools
 import tempfile
@@ -27,7 +30,8 @@ CASES = harness.HERE / "cases"
 
 def header(source):
     first = source.read_text().splitlines()[0].strip().removeprefix("/*").removeprefix("//").removesuffix("*/")
-    return {key.strip(): value.strip() for key, colon, value in (part.partition(":") for part in first.split(";")[:-1]) if colon}
+    parts = [part.partition(":") for part in first.split(";")[:-1]]
+    return {key.strip(): value.strip() for key, colon, value in parts if colon}
 
 
 def refusal(source, wanted, ran, traces):
@@ -56,8 +60,9 @@ def check(job):
     folder.mkdir()
     plain = None
     if wanted.get("plain") != "no":
-        # (by one compiler: its output is that of both)
-        plain = harness.compile_plain(given.wrappers, [source], "plain", ways[0][0], "-O0", wanted.get("flags", "").split(), folder)
+        # (by one compiler: its output is that of all)
+        flags = wanted.get("flags", "").split()
+        plain = harness.compile_plain(given.wrappers, [source], "plain", ways[0][0], "-O0", flags, folder)
         if not plain.status:
             plain = harness.run([folder / "plain"], folder)
     return [it for way in ways if (it := compare(given, folder, source, *way, wanted, plain))]
@@ -81,7 +86,8 @@ def compare(given, room, source, compiler, level, wanted, plain):
     if compiled.status:
         return f"{name}: not compiled: {compiled.errors[-500:]}"
     if plain and (ran.status, ran.output) != (plain.status, plain.output):
-        return f"{name}: status {ran.status}, {ran.output!r}; as plain C {plain.status}, {plain.output!r}: {plain.errors[-300:]}{ran.errors[-300:]}"
+        said = plain.errors[-300:] + ran.errors[-300:]
+        return f"{name}: status {ran.status}, {ran.output!r}; as plain C {plain.status}, {plain.output!r}: {said}"
     try:
         judged = verdicts.judged(traces, given.cilkcheck)
     except verdicts.Fault as fault:
@@ -109,9 +115,8 @@ def levels_of(given, wanted, k):
 def main():
     parser = harness.parser(__doc__)
     parser.add_argument("--levels", nargs="*", default=harness.LEVELS)
-    parser.add_argument("--chosen", action="store_true", help="-O0 and -O2, and for cases at which optimization is aimed -O3 too")
+    parser.add_argument("--chosen", action="store_true", help="-O0 and -O2, and -O3 where optimization may matter")
     parser.add_argument("--spread", action="store_true", help="-O0, and -O2 or -O3 in turns")
-    parser.add_argument("--compilers", nargs="*", default=harness.COMPILERS)
     parser.add_argument("names", nargs="*", help="cases, by the beginning of their names")
     given = parser.parse_args()
     sources = [it for it in sorted(CASES.iterdir()) if not given.names or it.name.startswith(tuple(given.names))]

@@ -1,8 +1,9 @@
 """What a source says in its comments that its recording has to show.
 
-`race: a` stands at both lines that race (at one line twice, as `race: a a`, where it races with itself); a label on more lines allows each pair
-of them, and one has to be found. `spawn: a` stands at the lines of spawns at which the two may part. `refused` stands at the line that is refused. Labels are separated by spaces; a comma separates the
-kinds; what stands behind a semicolon is for the reader.
+`race: a` stands at both lines that race (at one line twice, as `race: a a`, where it races with itself); a label on
+more lines allows each pair of them, and one has to be found. `spawn: a` stands at the lines of spawns at which the two
+may part. `refused` stands at the line that is refused. Labels are separated by spaces; a comma separates the kinds;
+what stands behind a semicolon is for the reader.
 """
 import re
 from collections import Counter
@@ -47,5 +48,7 @@ class Expected:
             wanted = [line for label in labels for line in self.spawn.get(label, ())]
             for spawn in {it.spawn.line for it in refusals if it.spawn.line}:
                 if wanted and spawn not in wanted:
-                    said.append(f"lines {pair[0]} and {pair[1]} part at line {spawn}, not at {' or '.join(map(str, sorted(set(wanted))))}")
-        return said + [f"no race of {label} (lines {', '.join(map(str, sorted(self.race[label])))})" for label in sorted(missing)]
+                    others = " or ".join(map(str, sorted(set(wanted))))
+                    said.append(f"lines {pair[0]} and {pair[1]} part at line {spawn}, not at {others}")
+        lines = {label: ", ".join(map(str, sorted(self.race[label]))) for label in sorted(missing)}
+        return said + [f"no race of {label} (lines {it})" for label, it in lines.items()]

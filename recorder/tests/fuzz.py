@@ -1,7 +1,7 @@
 #!/usr/bin/env python3
 """Random fork-join programs in C and C++, held against an oracle that knows nothing of the recorder.
 
-    fuzz.py [--count N] [--seed S] [--spread] [--keep FOLDER] [--expect N] [--expect-racy N]
+    fuzz.py [--count N] [--seed S] [--compilers NAME..] [--keep FOLDER] [--expect N] [--expect-racy N]
 
 A program is a tree of the statements in grammar/: accesses of numbers, fields, bit-fields, unions and packed
 structures, casts, pointers to elements and to functions, functions of libc, the heap, loops, switches and jumps, calls,
@@ -195,7 +195,6 @@ def main():
     parser = harness.parser(__doc__)
     parser.add_argument("--count", type=int, default=300)
     parser.add_argument("--seed", type=int, default=1)
-    parser.add_argument("--compilers", nargs="*", default=harness.COMPILERS)
     parser.add_argument("--only", nargs="*", default=[], help="groups by the beginning of their names: clang-O0-c++")
     parser.add_argument("--keep", help="a folder in which sources and programs stay")
     parser.add_argument("--expect-racy", type=int, help="how many programs the oracle has to find racy")

@@ -1,4 +1,5 @@
-"""What the tests share: the wrappers, a compile, a recorded run and its verdicts, the same program as plain C, jobs in parallel."""
+"""What the tests share: the wrappers, a compile, a recorded run and its verdicts, the same program as plain C, jobs in
+parallel."""
 import argparse
 import concurrent.futures
 import os
@@ -16,10 +17,12 @@ RECORDER = HERE.parent
 COMPILERS, LEVELS = ("clang",), ("-O0", "-O2", "-O3")
 CXX = (".cpp", ".cc", ".cxx")
 SECONDS = 300
-# The wrappers run by the Python that runs this, without a version manager's detour, and their modules are compiled once.
+# The wrappers run by the Python that runs this, without a version manager's detour, and their modules are compiled
+# once.
 MODULES = tempfile.TemporaryDirectory(prefix="cilkcheck-modules-")
 ENVIRONMENT = {
-    **{name: value for name, value in os.environ.items() if not name.startswith("CILKCHECK_") and name != "PYTHONDONTWRITEBYTECODE"},
+    **{name: value for name, value in os.environ.items()
+       if not name.startswith("CILKCHECK_") and name != "PYTHONDONTWRITEBYTECODE"},
     "PATH": f"{os.path.dirname(sys.executable)}:{os.environ['PATH']}",
     "PYTHONPYCACHEPREFIX": MODULES.name,
 }
@@ -27,8 +30,9 @@ ENVIRONMENT = {
 
 def parser(text):
     made = argparse.ArgumentParser(description=text.splitlines()[0])
-    made.add_argument("--cilkcheck", type=Path, default=verdicts.CILKCHECK, help="the judge (the repository's launcher)")
-    made.add_argument("--wrappers", type=Path, default=RECORDER / "bin", help="the folder of cilkcheck-cc and cilkcheck-c++")
+    made.add_argument("--cilkcheck", type=Path, default=verdicts.CILKCHECK, help="the judge")
+    made.add_argument("--wrappers", type=Path, default=RECORDER / "bin", help="the folder of cilkcheck-cc")
+    made.add_argument("--compilers", nargs="+", default=COMPILERS, help="clangs: clang clang-16 ..")
     made.add_argument("--jobs", type=int, default=os.cpu_count())
     made.add_argument("--expect", type=int, help="how many checks there have to be")
     return made
@@ -44,7 +48,8 @@ class Ran:
 def run(command, cwd, env=None, seconds=SECONDS):
     """Runs a command. Standard input is empty; a run of over two minutes has failed."""
     try:
-        ran = subprocess.run([str(it) for it in command], cwd=cwd, env={**ENVIRONMENT, **(env or {})}, stdin=subprocess.DEVNULL, capture_output=True, text=True, errors="replace", timeout=seconds)
+        ran = subprocess.run([str(it) for it in command], cwd=cwd, env={**ENVIRONMENT, **(env or {})}, timeout=seconds,
+                             stdin=subprocess.DEVNULL, capture_output=True, text=True, errors="replace")
     except subprocess.TimeoutExpired:
         return Ran(124, "", f"{command[0]}: more than {seconds} seconds")
     return Ran(ran.returncode, ran.stdout, ran.stderr)
@@ -57,7 +62,8 @@ def is_cxx(sources):
 def compile(wrappers, sources, output, compiler, level, flags=(), cwd=".", runtime=None):
     """Compiles and links for a recording, with another build of the runtime where one is given."""
     tool = wrappers / ("cilkcheck-c++" if is_cxx(sources) else "cilkcheck-cc")
-    return run([tool, *([level] if level else []), *sources, *flags, "-o", output], cwd, {"CILKCHECK_CC": compiler, **({"CILKCHECK_RUNTIME": str(runtime)} if runtime else {})})
+    env = {"CILKCHECK_CC": compiler, **({"CILKCHECK_RUNTIME": str(runtime)} if runtime else {})}
+    return run([tool, *([level] if level else []), *sources, *flags, "-o", output], cwd, env)
 
 
 def compile_plain(wrappers, sources, output, compiler, level, flags=(), cwd="."):

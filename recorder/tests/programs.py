@@ -1,7 +1,8 @@
 #!/usr/bin/env python3
-"""The ten programs, clean and with -DRACE, by both compilers: output as the serial elision's, verdict, both lines, the spawn where they part.
+"""The ten programs, clean and with -DRACE: output as the serial elision's, verdict, both lines, the
+spawn where they part.
 
-    programs.py [--cilkcheck PATH] [--jobs N] [--expect N] [NAME..]
+    programs.py [--cilkcheck PATH] [--compilers NAME..] [--levels LEVEL..] [--jobs N] [--expect N] [NAME..]
 """
 import itertools
 import tempfile
@@ -29,12 +30,14 @@ def check(job):
     ran, traces = harness.record("program", [], folder)
     elision = harness.run([folder / "plain"], folder)
     if (ran.status, ran.output) != (elision.status, elision.output):
-        return f"{name}: status {ran.status} and {ran.output!r}, and as plain C {elision.status} and {elision.output!r}: {ran.errors[-300:]}"
+        as_plain = f"as plain C {elision.status} and {elision.output!r}"
+        return f"{name}: status {ran.status} and {ran.output!r}, and {as_plain}: {ran.errors[-300:]}"
     try:
         races = verdicts.races(verdicts.judged(traces, given.cilkcheck))
     except verdicts.Fault as fault:
         return f"{name}: {fault}"
-    said = Expected(source).differences(races) if race else [f"{rule} of {one} and {other}" for rule, one, other in races]
+    unexpected = [f"{rule} of {one} and {other}" for rule, one, other in races]
+    said = Expected(source).differences(races) if race else unexpected
     return f"{name}: {'; '.join(said)}" if said else None
 
 
@@ -45,7 +48,7 @@ def main():
     given = parser.parse_args()
     sources = [it for it in sorted(PROGRAMS.glob("*.c")) if not given.names or it.stem in given.names]
     with tempfile.TemporaryDirectory(prefix="cilkcheck-programs-") as room:
-        jobs = [(given, room, *it) for it in itertools.product(sources, (False, True), harness.COMPILERS, given.levels)]
+        jobs = [(given, room, *it) for it in itertools.product(sources, (False, True), given.compilers, given.levels)]
         failures = harness.shown(it for it in harness.in_parallel(check, jobs, given.jobs) if it)
     harness.finish("programs", len(jobs), failures, given.expect)
 

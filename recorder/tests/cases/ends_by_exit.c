@@ -1,4 +1,4 @@
-/* expect: race; levels: all; main has one straight line to exit: clang's coverage leaves out functions that cannot return */
+/* expect: race; levels: all; main is one straight line, and does not return */
 #include <cilk/cilk.h>
 #include <stdlib.h>
 int x;

@@ -1,4 +1,4 @@
-// expect: race; a function that always throws is left out by clang's coverage
+// expect: race; a function that always throws
 #include <cilk/cilk.h>
 int x;
 static void fail() {

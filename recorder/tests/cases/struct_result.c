@@ -2,7 +2,7 @@
 #include <cilk/cilk.h>
 struct nine { int at[9]; } all;
 static struct nine make(int i) { struct nine made = {{i}}; return made; }
-static void child(int i) { all = make(i); } /* race: a, refused */
+static void child(int i) { all = make(i); } /* race: a */
 int main(void) {
   cilk_spawn child(1); /* spawn: a */
   int first = all.at[0]; /* race: a */

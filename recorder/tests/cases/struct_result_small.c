@@ -2,7 +2,7 @@
 #include <cilk/cilk.h>
 struct two { long first, second; } both;
 static struct two make(long i) { struct two made = {i, i}; return made; }
-static void child(long i) { both = make(i); } /* race: a, refused */
+static void child(long i) { both = make(i); } /* race: a */
 static long second(struct two *at) { return at->second; } /* race: a */
 int main(void) {
   cilk_spawn child(1); /* spawn: a */

@@ -3,13 +3,14 @@
 
     fuzz_openmp.py [--count N] [--seed S] [--keep FOLDER] [--jobs N] [--expect N]
 
-A program is a parallel region of two threads: statements of both, barriers, and singles with tasks (if, final, untied, firstprivate), taskwaits,
-taskgroups, taskloops, atomics, and functions that make tasks, whose local the tasks share. The oracle draws the order that OpenMP's
-specification gives between all accesses: a task comes behind its creation; a taskwait behind the children, a taskgroup and a barrier behind
-all descendants; what a function does with its local comes before its end. The recording has to show a race at exactly the globals, and
-the addresses of locals, at which two accesses that conflict have no order, or to be refused exactly where the program is no spawn and
-sync: a taskwait or the end of an undeferred task that leaves descendants of its tasks outstanding, a taskwait in a taskgroup with earlier
-tasks outstanding.
+A program is a parallel region of two threads: statements of both, barriers, and singles with tasks (if, final, untied,
+firstprivate), taskwaits, taskgroups, taskloops, atomics, and functions that make tasks, whose local the tasks share.
+The oracle draws the order that OpenMP's specification gives between all accesses: a task comes behind its creation; a
+taskwait behind the children, a taskgroup and a barrier behind all descendants; what a function does with its local
+comes before its end. The recording has to show a race at exactly the globals, and the addresses of locals, at which two
+accesses that conflict have no order, or to be refused exactly where the program is no spawn and sync: a taskwait or the
+end of an undeferred task that leaves descendants of its tasks outstanding, a taskwait in a taskgroup with earlier tasks
+outstanding.
 """
 import itertools
 import random
@@ -27,7 +28,8 @@ EACH, CELLS, FUNCTIONS, MOST_NODES = 20, 12, 3, 400
 
 
 class Program:
-    """Statements are tuples: (kind, ..). A cell is a number, or "l" for the function's local. A taskloop's own clause is one of `loops`."""
+    """Statements are tuples: (kind, ..). A cell is a number, or "l" for the function's local. A taskloop's own clause
+    is one of `loops`."""
 
     def __init__(self, seed, draw, loops):
         self.seed, self.random, self.loops = seed, random.Random(f"{seed}.{draw}"), loops
@@ -49,7 +51,9 @@ class Program:
         if draw < 0.25 or self.left < 0 or depth > 4:
             return self.access(cells, local)
         if draw < 0.6:
-            return "task", self.random.choices(("", "if (0)", "final(1)", "untied", "firstprivate(v)"), (6, 2, 2, 1, 1))[0], self.body(depth + 1, cells, local, callee)
+            clauses = "", "if (0)", "final(1)", "untied", "firstprivate(v)"
+            clause = self.random.choices(clauses, (6, 2, 2, 1, 1))[0]
+            return "task", clause, self.body(depth + 1, cells, local, callee)
         if draw < 0.76:
             return ("wait",)
         if draw < 0.85:
@@ -59,7 +63,8 @@ class Program:
         return ("call", self.random.randrange(callee, FUNCTIONS)) if callee < FUNCTIONS else self.access(cells, local)
 
     def body(self, depth, cells, local, callee):
-        """A body's cells are one of those around it and one more, so that it meets what is near to it, and not everything everywhere."""
+        """A body's cells are one of those around it and one more, so that it meets what is near to it, and not
+        everything everywhere."""
         cells = [self.random.choice(cells)] if cells else []
         cells.append(self.random.randrange(CELLS))
         return [self.statement(depth, cells, local, callee) for _ in range(self.random.randint(2, 6))]
@@ -75,7 +80,8 @@ class Program:
         out.append(f"static int {', '.join(f'{name}_c{k}' for k in range(CELLS))};")
         out += [f"static void {name}_f{k}(void);" for k in range(FUNCTIONS)]
         for k, body in enumerate(self.functions):
-            out.append(f'static void {name}_f{k}(void) {{\n  int l = 0, v = 0;\n  fprintf(stderr, "local {k} %p\\n", (void *)&l);')
+            out.append(f"static void {name}_f{k}(void) {{\n  int l = 0, v = 0;")
+            out.append(f'  fprintf(stderr, "local {k} %p\\n", (void *)&l);')
             self.write_body(out, body)
             out.append("}")
         out.append(f"static void {name}(void) {{")
@@ -93,7 +99,8 @@ class Program:
             if it[0] == "access":
                 self.write_access(out, *it[1:])
             elif it[0] == "task":
-                out.append(f"#pragma omp task {it[1]} default(shared){'' if 'private' in it[1] else ' private(v)'}\n{{\n  v = 0;")
+                private = "" if "private" in it[1] else " private(v)"
+                out.append(f"#pragma omp task {it[1]} default(shared){private}\n{{\n  v = 0;")
                 self.write_body(out, it[2])
                 out.append("  sink(v);\n}")
             elif it[0] == "wait":
@@ -103,7 +110,8 @@ class Program:
                 self.write_body(out, it[1])
                 out.append("}")
             elif it[0] == "loop":
-                out.append(f"#pragma omp taskloop {it[1]} default(shared) private(v)\nfor (int i = 0; i < 4; i++) {{\n  v = i;")
+                out.append(f"#pragma omp taskloop {it[1]} default(shared) private(v)")
+                out.append("for (int i = 0; i < 4; i++) {\n  v = i;")
                 self.write_access(out, *it[2:])
                 out.append("  sink(v);\n}")
             else:
@@ -149,10 +157,12 @@ class Oracle:
                 self.barrier(threads)
             if barrier:
                 self.barrier(threads)
-        self.racy = {cell for cell, all_of in self.accesses.items() if any(self.race(*pair) for pair in itertools.combinations(all_of, 2))}
+        self.racy = {cell for cell, all_of in self.accesses.items()
+                     if any(self.race(*pair) for pair in itertools.combinations(all_of, 2))}
 
     def race(self, one, other):
-        return self.conflict(one[1], other[1]) and not self.is_before(one[0], other[0]) and not self.is_before(other[0], one[0])
+        ordered = self.is_before(one[0], other[0]) or self.is_before(other[0], one[0])
+        return self.conflict(one[1], other[1]) and not ordered
 
     @staticmethod
     def conflict(one, other):
@@ -241,7 +251,8 @@ class Oracle:
 
 
 def drawn(seed):
-    """The program of a seed: the first of its draws that is not too long, nor refused but where five divides the seed."""
+    """The program of a seed: the first of its draws that is not too long, nor refused but where five divides the
+    seed."""
     loops = "", "grainsize(2)", "num_tasks(2)", "nogroup"
     for draw in itertools.count():
         program = Program(seed, draw, loops)
@@ -265,11 +276,13 @@ def compiled_group(given, room, seeds, compiler, level):
     programs, lines = [drawn(it) for it in seeds], [HEADER]
     for it in programs:
         it.write(lines)
-    lines += ["int main(int count, char **words) {", "  switch (atoi(words[count - 1])) {", *(f"  case {it}: p{it}(); break;" for it in seeds), "  }\n  return 0;\n}"]
+    lines += ["int main(int count, char **words) {", "  switch (atoi(words[count - 1])) {",
+              *(f"  case {it}: p{it}(); break;" for it in seeds), "  }\n  return 0;\n}"]
     (folder / "p.c").write_text("\n".join(lines) + "\n")
     (folder / "sink.c").write_text("static int sum;\nvoid sink(int value) { sum += value; }\n")
-    harness.run(["gcc", "-c", "sink.c", "-o", "sink.o"], folder)
-    return programs, folder, harness.compile(given.wrappers, ["p.c", "sink.o"], "p", compiler, level, ["-fopenmp"], folder)
+    harness.run([compiler, "-c", "sink.c", "-o", "sink.o"], folder)
+    compiled = harness.compile(given.wrappers, ["p.c", "sink.o"], "p", compiler, level, ["-fopenmp"], folder)
+    return programs, folder, compiled
 
 
 def group_of(given, room, seeds, compiler, level):
@@ -292,7 +305,8 @@ def group_of(given, room, seeds, compiler, level):
 def compare(program, folder, given, counts):
     members = folder / "members"
     members.unlink(missing_ok=True)
-    ran, traces = harness.record("p", [str(program.seed)], folder, {"CILKCHECK_MEMBERS": str(members), **({"CILKCHECK_RAW": "1"} if program.seed % 3 == 0 else {})})
+    env = {"CILKCHECK_MEMBERS": str(members), **({"CILKCHECK_RAW": "1"} if program.seed % 3 == 0 else {})}
+    ran, traces = harness.record("p", [str(program.seed)], folder, env)
     try:
         oracle = Oracle(program)
     except Refused:
@@ -303,7 +317,8 @@ def compare(program, folder, given, counts):
     counts["racy"] += bool(oracle.racy)
     globals_at = {int(it[2], 16): int(it[1]) for it in re.finditer(r"^global (\d+) (\S+)$", ran.errors, re.M)}
     locals_at = [int(it[2], 16) for it in re.finditer(r"^local (\d+) (\S+)$", ran.errors, re.M)]
-    refused = {(number, it.cell) for number, trace in enumerate(verdicts.judged(traces, given.cilkcheck), 1) for it in trace.refusals}
+    judged = verdicts.judged(traces, given.cilkcheck)
+    refused = {(number, it.cell) for number, trace in enumerate(judged, 1) for it in trace.refusals}
     found = set()
     for line in members.read_text().splitlines():
         number, cell, address, _ = line.split()
@@ -315,7 +330,8 @@ def compare(program, folder, given, counts):
         return f"{len(locals_at)} locals, by the oracle {len(oracle.locals)}"
     if found != known:
         def names(of):
-            return ", ".join(f"c{globals_at[it]}" if it in globals_at else f"local {it:#x}" for it in sorted(of)) or "none"
+            names = [f"c{globals_at[it]}" if it in globals_at else f"local {it:#x}" for it in sorted(of)]
+            return ", ".join(names) or "none"
         return f"races lost: {names(known - found)}; races that are none: {names(found - known)}"
     return ""
 
@@ -326,11 +342,12 @@ def main():
     parser.add_argument("--seed", type=int, default=1)
     parser.add_argument("--keep", help="a folder in which sources and programs stay")
     given = parser.parse_args()
-    combinations = list(itertools.product(harness.COMPILERS, harness.LEVELS))
+    combinations = list(itertools.product(given.compilers, harness.LEVELS))
     counts, failures = Counter(), []
     with tempfile.TemporaryDirectory(prefix="cilkcheck-openmp-") as room:
-        jobs = [(given, room, list(range(first, min(first + EACH, given.seed + given.count))), *combinations[k % len(combinations)])
-                for k, first in enumerate(range(given.seed, given.seed + given.count, EACH))]
+        end = given.seed + given.count
+        jobs = [(given, room, list(range(first, min(first + EACH, end))), *combinations[k % len(combinations)])
+                for k, first in enumerate(range(given.seed, end, EACH))]
         for failed, counted in harness.in_parallel(lambda job: group_of(*job), jobs, given.jobs):
             failures += failed
             counts += counted

@@ -3,7 +3,8 @@
 
     libraries/run.py [what ../cases.py takes]
 
-First names/update check, effects.c and containers.cpp (with the runtime's wrappers alone), then the programs of cases/, as ../cases.py does.
+First names/update check, effects.c and containers.cpp (with the runtime's wrappers alone), then the programs of cases/,
+as ../cases.py does.
 """
 import subprocess
 import sys
@@ -29,7 +30,8 @@ def wrappers_alone(room):
     for source in sorted([*(RECORDER / "runtime").glob("libc_*.c"), *(RECORDER / "runtime").glob("cxx_*.c")]):
         objects.append(room / f"{source.stem}.o")
         run("gcc", "-std=gnu11", "-g", "-O1", "-fno-builtin", "-c", source, "-o", objects[-1])
-    run("gcc", "-std=gnu11", "-g", "-fno-builtin", "-Wno-format", HERE / "effects.c", *objects, "-lm", "-o", room / "effects")
+    plain = ["-std=gnu11", "-g", "-fno-builtin", "-Wno-format"]
+    run("gcc", *plain, HERE / "effects.c", *objects, "-lm", "-o", room / "effects")
     print(run(room / "effects"))
     run("clang++", "-std=c++17", "-g", "-c", HERE / "containers.cpp", "-o", room / "containers.o")
     run("objcopy", f"--redefine-syms={RECORDER / 'names' / 'redirected'}", room / "containers.o")
