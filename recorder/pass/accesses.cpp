@@ -11,7 +11,9 @@ namespace cilkcheck {
 
 static FunctionCallee access_hook(Module &module, const std::string &name, Type *none, ArrayRef<Type *> arguments) {
   FunctionCallee hook = module.getOrInsertFunction(name, FunctionType::get(none, arguments, false));
-  auto *function = cast<Function>(hook.getCallee());
+  auto *function = dyn_cast<Function>(hook.getCallee());
+  if (!function || !function->isDeclaration())
+    return hook; // the canary has its own
   // The hook keeps an account of its own; the program's memory stays in registers around it. It is neither dropped nor merged, since
   // it writes, and marks and calls stay where they are, since they may write the same.
   function->setDoesNotThrow();
@@ -33,15 +35,17 @@ Hooks::Hooks(Module &module, const Types &types) {
   telling.insert(access.getCallee());
   auto other = [&](const char *name, ArrayRef<Type *> arguments) {
     FunctionCallee hook = module.getOrInsertFunction(name, FunctionType::get(types.none, arguments, false));
-    cast<Function>(hook.getCallee())->setDoesNotThrow();
+    if (auto *function = dyn_cast<Function>(hook.getCallee()))
+      function->setDoesNotThrow();
     return hook;
   };
   enter = other("__cilkcheck_enter", {types.pointer, types.pointer, types.pointer});
   leave = other("__cilkcheck_leave", {});
   dynamic = other("__cilkcheck_dynamic", {types.pointer, types.i64, types.pointer});
-  place = cast<GlobalVariable>(module.getOrInsertGlobal("__cilkcheck_place", types.pointer));
+  place = module.getOrInsertGlobal("__cilkcheck_place", types.pointer);
   // the runtime is a part of the program; a library of its own reaches it through its table of addresses
-  place->setDSOLocal(module.getPICLevel() == PICLevel::NotPIC || module.getPIELevel() != PIELevel::Default);
+  if (auto *global = dyn_cast<GlobalVariable>(place); global && global->isDeclaration())
+    global->setDSOLocal(module.getPICLevel() == PICLevel::NotPIC || module.getPIELevel() != PIELevel::Default);
 }
 
 bool Hooks::tells(const Value *call) const {
@@ -211,7 +215,7 @@ void Teller::tell_call(CallBase &call) {
       tell(call, call.getArgOperand(i), call.getParamByValType(i), CILKCHECK_READ);
   // What a function that is not compiled here returns in memory; where it is recorded elsewhere, its own accesses are the same strand's.
   auto *callee = dyn_cast<Function>(call.getCalledOperand()->stripPointerCasts());
-  if (callee && !callee->isDeclaration() && !callee->isInterposable())
+  if (callee && !callee->isDeclaration() && !callee->isInterposable() && !recording.plain.count(callee))
     return;
   for (unsigned i = 0; i < call.arg_size() && i < 2; i++)
     if (call.paramHasAttr(i, Attribute::StructRet)) {

@@ -103,7 +103,7 @@ private:
 struct Hooks {
   Hooks(Module &module, const Types &types);
   FunctionCallee reads[5], writes[5], access, enter, leave, dynamic;
-  GlobalVariable *place;
+  Constant *place;
   // Whether the call tells an access.
   bool tells(const Value *call) const;
 

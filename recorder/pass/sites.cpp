@@ -65,7 +65,8 @@ void tell_calls(Recording &recording, Function &function, Sites &sites) {
         !begins_with(callee->getName(), "__cilkcheck_libc_")) {
       if (call->arg_size() && call->getArgOperand(0) == none)
         call->setArgOperand(0, sites.of(*call, ""));
-      continue;
+      if (callee != recording.hooks.leave.getCallee()) // a return is the place of the sync before it
+        continue;
     }
     auto *told = new StoreInst(sites.of(*call, callee_name(*call)), recording.hooks.place, false, recording.layout.getABITypeAlign(recording.types.pointer), call);
     told->setDebugLoc(call->getDebugLoc());
