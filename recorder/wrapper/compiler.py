@@ -199,15 +199,14 @@ class Pass:
         return folder / PLUGIN
 
     def tried(self, plugin, place):
-        """Compiles and runs the canary, which ends with status 0 where all of its accesses are told. canary_hooks.c stands for the runtime."""
+        """Compiles and runs the canary, which ends with status 0 where all of its accesses are told."""
         name, folder = f"clang {self.compiler.version} ({self.compiler.file})", self.session.name(place / f"canary-{os.getpid()}")
-        hooks, canary = PASS / "canary_hooks.c", PASS / "canary.c"
         try:
             folder.mkdir()
             for level in ("-O0", "-O2"):
-                made, program = folder / "canary.o", folder / "canary"
-                clang = [self.compiler.command, "-w", "-g", "-gdwarf-4", level]
-                for words in ([*clang, *flags(plugin), "-c", canary, "-o", made], [*clang, made, hooks, "-o", program], [program]):
+                program = folder / "canary"
+                clang = [self.compiler.command, "-w", "-g", "-gdwarf-4", level, *flags(plugin)]
+                for words in ([*clang, PASS / "canary.c", "-o", program], [program]):
                     status, said = self.tells(words, folder / "said")
                     if status:
                         raise Failed(REFUSED, f"{name} does not tell each access with the pass at {level}: {said}")
