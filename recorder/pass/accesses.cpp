@@ -82,7 +82,7 @@ void Teller::tell(Instruction &access, Value *pointer, Value *bytes, int kind, I
   IRBuilder<> builder(before ? before : &access);
   builder.SetCurrentDebugLocation(access.getDebugLoc());
   auto *known = dyn_cast<ConstantInt>(bytes);
-  emit(builder, pointer, bytes, kind, sites.of(access, names.access(pointer, known ? known->getZExtValue() : UINT64_MAX)));
+  emit(builder, pointer, bytes, kind, sites.of(access, names.access(pointer, known ? known->getZExtValue() : UINT64_MAX, !isa<CallBase>(access))));
 }
 
 void Teller::tell(Instruction &access, Value *pointer, uint64_t bytes, int kind, Instruction *before) {
@@ -108,7 +108,7 @@ void Teller::tell_exchange(AtomicCmpXchgInst &exchange) {
   builder.SetCurrentDebugLocation(exchange.getDebugLoc());
   Value *kind = builder.CreateSelect(builder.CreateExtractValue(&exchange, 1), builder.getInt32(CILKCHECK_ATOMIC_WRITE),
                                      builder.getInt32(CILKCHECK_ATOMIC_READ));
-  emit(builder, pointer, builder.getInt64(bytes), kind, sites.of(exchange, names.access(pointer, bytes)));
+  emit(builder, pointer, builder.getInt64(bytes), kind, sites.of(exchange, names.access(pointer, bytes, true)));
 }
 
 // Operands in memory are told. What is done through a register, or what a memory clobber stands for, is not known.

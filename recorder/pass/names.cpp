@@ -65,6 +65,12 @@ Names::Names(Function &function) : layout(function.getParent()->getDataLayout())
       if (memory)
         variables.insert({memory->stripPointerCasts(), {variable, expression && expression->startsWithDeref()}});
     });
+  // an argument in memory: the variable lies where the argument points to, which is kept for the debugger alone
+  for (auto &[holder, told] : SmallVector<std::pair<const Value *, std::pair<DILocalVariable *, bool>>, 8>(variables.begin(), variables.end()))
+    if (told.second)
+      for (const User *user : holder->users())
+        if (auto *store = dyn_cast<StoreInst>(user); store && store->getPointerOperand() == holder)
+          variables.insert({store->getValueOperand(), {told.first, false}});
 }
 
 DILocalVariable *Names::variable(const Value *memory) const {
@@ -84,8 +90,8 @@ Names::Lvalue Names::member(const Lvalue &of, const DIDerivedType &which) {
   return {in_brackets(of.text) + (of.pointee ? "->" : ".") + which.getName().str(), which.getBaseType(), false};
 }
 
-// The part of `from` that lies `offset` bytes behind its begin, as small as BYTES.
-Names::Lvalue Names::walk(Lvalue from, int64_t offset, uint64_t bytes) {
+// The part of `from` that lies `offset` bytes behind its begin, as small as BYTES. One value is the innermost part that holds it.
+Names::Lvalue Names::walk(Lvalue from, int64_t offset, uint64_t bytes, bool one_value) {
   for (unsigned steps = 0; steps < 16; steps++) {
     int64_t size = bytes_of(from.type);
     if (from.pointee && (offset < 0 || (size && offset >= size))) {
@@ -94,11 +100,11 @@ Names::Lvalue Names::walk(Lvalue from, int64_t offset, uint64_t bytes) {
       continue;
     }
     bool counted = array(from.type) && !size; // its length is a variable's
-    if ((!size && !counted) || offset < 0 || (!offset && !counted && bytes >= (uint64_t)size))
+    if ((!size && !counted) || offset < 0 || (!offset && !counted && bytes >= (uint64_t)size && !one_value))
       break;
     if (auto *it = array(from.type)) {
       uint64_t element = bytes_of(element_of(*it));
-      if (!element)
+      if (!element || (one_value && element < bytes))
         break;
       Lvalue whole = from.pointee ? Lvalue{show(from), from.type, false} : from;
       from = whole;
@@ -107,7 +113,7 @@ Names::Lvalue Names::walk(Lvalue from, int64_t offset, uint64_t bytes) {
       offset %= element;
     } else if (auto *it = structure(from.type)) {
       auto *which = member_at(*it, offset);
-      if (!which)
+      if (!which || (one_value && bytes_of(which->getBaseType()) < bytes) || which->isArtificial())
         break;
       from = member(from, *which);
       offset -= which->getOffsetInBits() / 8;
@@ -173,7 +179,7 @@ Names::Lvalue Names::lvalue(Value *pointer, unsigned depth) const {
     SmallVector<DIGlobalVariableExpression *, 1> known;
     global->getDebugInfo(known);
     if (known.empty())
-      return {global->hasPrivateLinkage() ? "" : global->getName().str(), nullptr, false};
+      return {global->hasPrivateLinkage() ? "" : demangle(global->getName().str()), nullptr, false};
     return {known[0]->getVariable()->getName().str(), known[0]->getVariable()->getType(), false};
   }
   if (auto *cast = dyn_cast<BitCastOperator>(pointer))
@@ -195,7 +201,7 @@ Names::Lvalue Names::lvalue(Value *pointer, unsigned depth) const {
     Lvalue holder = lvalue(load->getPointerOperand(), depth + 1);
     if (!holder)
       return holder;
-    holder = walk(holder, 0, layout.getPointerSize());
+    holder = walk(holder, 0, layout.getPointerSize(), true);
     auto *type = dyn_cast_or_null<DIDerivedType>(bare(holder.type));
     if (!type)
       return {show(holder), nullptr, true};
@@ -205,9 +211,9 @@ Names::Lvalue Names::lvalue(Value *pointer, unsigned depth) const {
   return {};
 }
 
-std::string Names::access(Value *pointer, uint64_t bytes) const {
+std::string Names::access(Value *pointer, uint64_t bytes, bool one_value) const {
   Lvalue it = lvalue(pointer, 0);
-  return it ? show(walk(it, 0, std::max<uint64_t>(1, bytes))) : "";
+  return it ? show(walk(it, 0, std::max<uint64_t>(1, bytes), one_value)) : "";
 }
 
 // The last name of a function, as the source has it.

@@ -1,5 +1,6 @@
 // Global and static objects by name.
 #include "pass.h"
+#include "llvm/Demangle/Demangle.h"
 #include "versions.h"
 
 namespace cilkcheck {
@@ -29,7 +30,7 @@ void tell_objects(Recording &recording) {
     DIGlobalVariable *variable = known.empty() ? nullptr : known[0]->getVariable();
     SourceFile *source = variable ? recording.files.find(variable->getFile()) : nullptr;
     Row row = {Field::of_address(address), Field::of_wide(recording.layout.getTypeAllocSize(object->getValueType()).getFixedValue()),
-               Field::of_text(variable ? variable->getName() : object->getName()), Field::of_text(source ? source->name : ""),
+               Field::of_text(variable ? variable->getName().str() : demangle(object->getName().str())), Field::of_text(source ? source->name : ""),
                Field::of_number(variable ? variable->getLine() : 0), Field::of_number(source && source->system ? CILKCHECK_SYSTEM : 0)};
     GlobalVariable *table = recording.rows.table("cilkcheck_objects", {row}, false);
     table->setComdat(object->getComdat());

@@ -144,8 +144,8 @@ std::vector<Function *> told_functions(Recording &recording);
 class Names {
 public:
   explicit Names(Function &function);
-  // Of what lies at `pointer`, BYTES of it; empty: not known.
-  std::string access(Value *pointer, uint64_t bytes) const;
+  // Of what lies at `pointer`, BYTES of it, as one value or as a block; empty: not known.
+  std::string access(Value *pointer, uint64_t bytes, bool one_value = false) const;
   // The variable that lies in this memory.
   DILocalVariable *variable(const Value *memory) const;
 
@@ -159,7 +159,7 @@ private:
   static std::string show(const Lvalue &it);
   static Lvalue index(const Lvalue &of, DIType *element);
   static Lvalue member(const Lvalue &of, const DIDerivedType &which);
-  static Lvalue walk(Lvalue from, int64_t offset, uint64_t bytes);
+  static Lvalue walk(Lvalue from, int64_t offset, uint64_t bytes, bool one_value = false);
   Lvalue lvalue(Value *pointer, unsigned depth) const;
   Lvalue element(Lvalue base, const GEPOperator &address) const;
 

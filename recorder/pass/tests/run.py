@@ -120,6 +120,13 @@ def expected(path, level):
     return found
 
 
+def is_of(home, function):
+    """Whether HOME is the name in the source of a function of the module."""
+    if home == "operator()":
+        return "cl" in function
+    return home.lstrip("~") in function and (home[0] != "~" or re.search("D[0-2]", function))
+
+
 def compare(path, level, module):
     """What is otherwise than the comments say, and how many comments were looked at."""
     wanted, wrong = expected(path, level), []
@@ -134,7 +141,7 @@ def compare(path, level, module):
 
     told, frames, dynamics, notes, objects = {}, {}, {}, {}, {}
     for line, what, home, function in module.told:
-        if home in function:                                # else an inlined copy
+        if is_of(home, function):                           # else an inlined copy
             told.setdefault(line, []).append(what)
     for line, rows in module.frames:
         frames[line] = rows
@@ -143,7 +150,8 @@ def compare(path, level, module):
     for line, text in module.notes:
         notes.setdefault(line, []).append(text)
     for line, bytes_, name in module.objects:
-        objects.setdefault(line, []).append(bytes_)
+        if line:
+            objects.setdefault(line, []).append(bytes_)
     listed = lambda text: [it.strip() for it in text.split(";")]
     count = check("told", told, listed)
     count += check("frame", frames, lambda text: [] if text == "none" else [(it.split()[0], int(it.split()[1])) for it in text.split(",")])
@@ -181,7 +189,7 @@ def main():
                 module = Module(out.read_text())
                 if options.show:
                     for line, what, home, function in module.told:
-                        print(f"{path.name}:{line}: {level} {function}: {what}" + ("" if home in function else f" (of {home})"))
+                        print(f"{path.name}:{line}: {level} {function}: {what}" + ("" if is_of(home, function) else f" (of {home})"))
                     for it in module.frames:
                         print("frame", it)
                 bad, checks = compare(path, level, module)
