@@ -33,6 +33,9 @@ SourceFile::SourceFile(const DIFile &file, StringRef unit_directory, StringRef o
 StringRef SourceFile::code(unsigned line) {
   if (!is_read) {
     is_read = true;
+    // (to open a pipe may wait for ever)
+    if (!sys::fs::is_regular_file(path))
+      return {};
     if (auto read = MemoryBuffer::getFile(path)) {
       buffer = std::move(*read);
       StringRef rest = buffer->getBuffer();
