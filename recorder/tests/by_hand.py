@@ -112,6 +112,8 @@ PROGRAMS = {
     "qsort": ([child(Sort(at(i, 1), 2)), read(i, 0), read(i, 2)], INTS[2]),
     "a child's exception comes behind a sync": (
         [Try([child(write(i, 0)), Spawn.of(THROWS, at(i, 1), 0), write(i, 0)], [read(i, 0), read(i, 1)])], set()),
+    "a try block that spawns syncs at its end": ([Try([child(write(i, 0))], []), write(i, 0)], set()),
+    "one that does not spawn does not": ([child(write(i, 0)), Try([write(i, 1)], []), write(i, 0)], INTS[0]),
     "a call's exception does not": (
         [Try([child(write(i, 0)), Call(THROWS, at(i, 1), 0)], [read(i, 0), read(i, 1)])], INTS[0]),
     "an exception that leaves a function syncs": (

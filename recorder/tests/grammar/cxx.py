@@ -183,7 +183,7 @@ class Guard(Statement):
 
 class Try(Statement):
     """An exception that a child throws comes to its spawner, which syncs and goes on at the catch; one of a plain call
-    does not sync."""
+    does not sync. A try block in which a spawn stands ends with a sync, as in Cilk Plus."""
     weight, only = 4, "c++"
 
     def __init__(self, body, handler):
@@ -197,19 +197,21 @@ class Try(Statement):
         return cls(body, program.block(here.deeper(inner=True, loop=None), program.random.randint(0, 2)))
 
     def write(self, out):
-        out.line("try {")
+        first = out.line("try {")
         out.all(self.body)
-        out.line("} catch (int) {")
+        last = out.line("} catch (int) {")
+        self.syncs = any("cilk_spawn" in it or "SPAWN" in it for it in out.lines[first:last])
         out.all(self.handler)
         out.line("}")
 
     def run(self, oracle, frame):
         try:
             oracle.statements(self.body, frame)
-            return
         except oracle.Thrown:
-            pass
-        oracle.statements(self.handler, frame)
+            oracle.statements(self.handler, frame)
+            return
+        if self.syncs:
+            oracle.sync(frame)
 
 
 class Vector(Base):

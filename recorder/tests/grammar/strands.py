@@ -293,7 +293,7 @@ class CilkFor(SpawnedBlock):
         ("short {k} = 1; {k} <= {c}; ++{k}", lambda c: range(1, c + 1)),
         ("int {k} = 2 * {c} - 1; {k} > 0; {k} -= 2", lambda c: range(2 * c - 1, 0, -2)),
         ("unsigned {k} = 2 * {c}; {k} != 0; {k} -= 2", lambda c: range(2 * c, 0, -2)),
-        ("int {k} = 0; {c} > {k}; {k} = {k} + 1", lambda c: range(c)),
+        ("int {k} = 0; {c} > {k}; {k}++", lambda c: range(c)),
     ]
 
     @classmethod
