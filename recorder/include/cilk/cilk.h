@@ -10,13 +10,13 @@
 #define cilk_reducer _Cilk_reducer
 #else
 #define cilk_spawn
-#define cilk_sync ((void)0)
+#define cilk_sync do {} while (0)
 #define cilk_for for
 #define cilk_scope
 #define cilk_reducer(...)
 #if !defined __cilk && !defined __CILKCHECK_ELISION__
 #define _Cilk_spawn
-#define _Cilk_sync ((void)0)
+#define _Cilk_sync do {} while (0)
 #define _Cilk_for for
 #endif
 #endif

@@ -6,7 +6,7 @@
 #undef _Cilk_sync
 #undef _Cilk_for
 #define _Cilk_spawn
-#define _Cilk_sync ((void)0)
+#define _Cilk_sync do {} while (0)
 #define _Cilk_for for
 #endif
 #endif
