@@ -4,13 +4,15 @@ import re
 import subprocess
 import sys
 
+from rewriter import ELISION as KEYWORDS
+
 from .compiler import RECORDER, REFUSED, environment, flags
 from .processes import Failed
 
 INCLUDE = RECORDER / "include"
 # a recorded program sees both, its serial elision the first two
 OURS = ["-D__CILKCHECK__=1", "-isystem", str(INCLUDE)]
-ELISION = [*OURS, "-D__CILKCHECK_ELISION__=1", "-D_Cilk_spawn=", "-D_Cilk_sync=((void)0)", "-D_Cilk_for=for", "-D_Cilk_scope="]
+ELISION = [*OURS, "-D__CILKCHECK_ELISION__=1", *KEYWORDS]
 # a #pragma omp that nobody reads is worth a warning, and no error
 OPENMP_UNREAD = ["-Wsource-uses-openmp", "-Wno-error=source-uses-openmp"]
 # each object that was compiled with the pass refers to it
