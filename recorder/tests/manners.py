@@ -1,5 +1,6 @@
 #!/usr/bin/env python3
-"""What a recorded program and the wrappers do beside the verdict: output and status, names of traces, what is left when a run is cut off.
+"""What a recorded program and the wrappers do beside the verdict: output and status, names of traces, what is left when a run is cut off; and what
+the wrappers say, take and leave (wrapping.py).
 
     manners.py [--cilkcheck PATH] [--expect N]
 """
@@ -13,6 +14,7 @@ from pathlib import Path
 
 import harness
 import verdicts
+from wrapping import Wrapping
 
 SOURCE = r"""#include <cilk/cilk.h>
 #include <stdio.h>
@@ -50,7 +52,9 @@ int main(int argc, char **argv) {
 """
 
 
-class Manners:
+class Manners(Wrapping):
+    """Checks of a program's runs, and of the wrapper."""
+
     def __init__(self, given, room):
         self.given, self.room, self.checks, self.failures = given, Path(room), 0, []
         (self.room / "program.c").write_text(SOURCE)
@@ -83,8 +87,6 @@ class Manners:
         (self.room / "wrong.c").write_text("#include <cilk/cilk.h>\nint main(void) { return y; }\n")
         ran = self.cc("wrong.c", "-o", "wrong")
         self.check("the compiler's errors and status come through", ran.status == 1 and "wrong.c:2" in ran.errors and not (self.room / "wrong").exists(), ran)
-        ran = self.cc("--version")
-        self.check("--version is that of the compiler", not ran.status and ("gcc" in ran.output or "cilkcheck" in ran.output), ran)
         ran = self.cc("-E", "program.c")
         self.check("-E preprocesses", not ran.status and "main" in ran.output, ran.errors)
         ran = self.cc("-Wall", "-Wextra", "-Werror", "-c", "program.c")
@@ -141,9 +143,10 @@ class Manners:
         self.check("a program that was moved runs by itself and names its lines", bool(one) and one.later.line == 7 and "x[i % 40]" in one.later.code, (ran.stderr, found))
 
     def all(self):
-        for part in self.compiling, self.running, self.ending, self.large, self.moving:
+        own = Manners.compiling, Manners.running, Manners.ending, Manners.large, Manners.moving
+        for part in (*own, *self.PARTS):
             try:
-                part()
+                part(self)
             except (verdicts.Fault, OSError, IndexError) as fault:
                 self.check(f"{part.__name__} comes to its end", False, fault)
 

@@ -1,5 +1,6 @@
 #!/usr/bin/env python3
-"""A project with a Makefile and one with CMake, of several files and a library each, built by the wrappers, clean and with a race.
+"""A project with a Makefile and one with CMake, of several files and a library each, and one of each kind that is written for OpenCilk's compiler and
+its flags: built by the wrappers, clean and with a race.
 
     projects.py [--cilkcheck PATH] [--expect N]
 """
@@ -28,6 +29,16 @@ def cmake(given, folder, compiler, race):
     return [first, harness.run(["cmake", "--build", "build"], folder, env)], folder / "build/sorted", folder / "sorting/sort.cpp"
 
 
+def opencilk_make(given, folder, compiler, race):
+    words = ["make", "-s", *(f"{name}={given.wrappers / tool}" for name, tool in (("CC", "cilkcheck-cc"), ("CXX", "cilkcheck-c++")))]
+    return [harness.run(words + ["EXTRA_CFLAGS=-DRACE"] * race, folder, {"CILKCHECK_CC": compiler})], folder / "count", folder / "bins.cpp"
+
+
+def opencilk_cmake(given, folder, compiler, race):
+    steps, _, _ = cmake(given, folder, compiler, race)
+    return steps, folder / "build/smooth", folder / "rows.cpp"
+
+
 def check(job):
     given, room, build, compiler, race = job
     name = f"{build.__name__} {compiler}{' with a race' * race}"
@@ -52,7 +63,7 @@ def check(job):
 def main():
     given = harness.parser(__doc__).parse_args()
     with tempfile.TemporaryDirectory(prefix="cilkcheck-projects-") as room:
-        jobs = [(given, room, *it) for it in itertools.product((make, cmake), harness.COMPILERS, (False, True))]
+        jobs = [(given, room, *it) for it in itertools.product((make, cmake, opencilk_make, opencilk_cmake), harness.COMPILERS, (False, True))]
         failures = harness.shown(it for it in harness.in_parallel(check, jobs, given.jobs) if it)
     harness.finish("projects", len(jobs), failures, given.expect)
 

@@ -17,7 +17,7 @@ from pathlib import Path
 
 ROOT = Path(__file__).resolve().parent.parent.parent
 CILKCHECK = ROOT / "cilkcheck"
-AT = re.compile(r"#at (\d+) (.*?):(\d+), (.*?) \| ?(.*)")
+AT = re.compile(r"#at (\d+) (.*?):(\d+), (.*?)(?: \| ?(.*))?")
 OF = re.compile(r"#of (\S+) (.*)")
 # statuses of `judge`, from the best to the worst
 ORDER = [0, 1, 2, 4, 3]
@@ -90,7 +90,7 @@ def judge(path, cilkcheck=CILKCHECK):
         for line in text:
             if line.startswith("#"):
                 if found := AT.fullmatch(line.rstrip("\n")):
-                    places[found[1]] = Place(found[2], int(found[3]), found[4], found[5])
+                    places[found[1]] = Place(found[2], int(found[3]), found[4], found[5] or "")
                 elif found := OF.fullmatch(line.rstrip("\n")):
                     locations[found[1]] = found[2]
                 elif line.startswith("#run "):
