@@ -5,6 +5,7 @@
 // itself calls behind it: destructors, constructors and conversion operators for the result, assignment operators, `get` of a structured binding.
 // Where one of these might be taken for the spawned call, or another for it, the statement is refused: a child that begins too late loses races.
 #include "spawns.h"
+#include "pass.h"
 #include "versions.h"
 #include "llvm/ADT/STLExtras.h"
 #include "llvm/ADT/SetVector.h"
@@ -16,7 +17,6 @@
 #include "llvm/IR/CFG.h"
 #include "llvm/IR/Constants.h"
 #include "llvm/IR/DataLayout.h"
-#include "llvm/IR/DebugInfoMetadata.h"
 #include "llvm/IR/Dominators.h"
 #include "llvm/IR/IRBuilder.h"
 #include "llvm/IR/InstIterator.h"
@@ -80,14 +80,13 @@ const char *runtime_call(StringRef mark) {
 bool is_any(StringRef name, ArrayRef<const char *> names) { return is_contained(names, name); }
 bool is_spawn(StringRef name) { return name == SPAWN_OF_C || begins_with(name, SPAWN_OF_CXX); }
 
+// Ends the compilation with a message in clang's form, which the wrapper takes up.
 [[noreturn]] void refuse(const Instruction &at, const Twine &why) {
-  std::string file = at.getModule()->getSourceFileName();
-  unsigned line = 0;
-  if (DebugLoc place = at.getDebugLoc()) {
-    file = cast<DIScope>(place.getScope())->getFilename().str();
-    line = place.getLine();
-  }
-  errs() << "cilkcheck: refused: " << file << ":" << line << ": " << why << "\n";
+  auto &module = const_cast<Module &>(*at.getModule());
+  cilkcheck::Position place = cilkcheck::position_of(at);
+  cilkcheck::SourceFiles files(module);
+  auto *file = files.find(place.file);
+  errs() << (file ? file->name : module.getSourceFileName()) << ":" << place.line << ": error: " << why << "\n";
   exit(REFUSED);
 }
 
@@ -301,12 +300,24 @@ private:
     return *at;
   }
 
-  // Whether the call through a pointer may be a virtual operator for an earlier call's result: an assignment, whose result nobody uses, or a conversion.
+  // Whether the call may be that of a virtual operator: the function comes out of the table of its first argument, `this`.
+  static bool is_virtual(const CallBase &call, const Value *self) {
+    const Value *callee = call.getCalledOperand()->stripPointerCasts();
+    auto *function = dyn_cast<LoadInst>(callee);
+    if (!function) return isa<ExtractValueInst>(callee) || isa<CallBase>(callee);
+    auto *table = dyn_cast<LoadInst>(getUnderlyingObject(function->getPointerOperand(), 0));
+    return table && table->getPointerOperand()->stripPointerCasts() == self;
+  }
+
+  // Whether the language may call it for an earlier call's result: an assignment, whose own result nobody uses, or a conversion.
   static bool may_be_language(const CallBase &call, ArrayRef<Called> calls) {
     bool by_pointer = call.hasStructRetAttr();
+    if (call.arg_size() < 1u + by_pointer) return false;
+    const Value *self = call.getArgOperand(by_pointer)->stripPointerCasts();
+    if (!is_virtual(call, self)) return false;
     if (call.use_empty() && !by_pointer) return true;
-    if (call.arg_size() != 1u + by_pointer) return false;
-    const Value *self = getUnderlyingObject(call.getArgOperand(by_pointer), 0);
+    if (call.arg_size() > 1u + by_pointer) return false;
+    self = getUnderlyingObject(self, 0);
     return any_of(calls, [&](const Called &it) {
       return self == it.call || (it.call != &call && it.call->hasStructRetAttr() && getUnderlyingObject(it.call->getArgOperand(0), 0) == self);
     });

@@ -35,7 +35,7 @@ OPENCILK = "a reducer of OpenCilk, which clang does not compile; take one of Cil
 # The one list of them. <cilk/cilk.h> defines the names (a test compares), and the wrapper the elisions.
 KEYWORDS = {
     "_Cilk_spawn": Keyword("cilk_spawn", "", misplaced("it begins a statement, or stands behind the = of one")),
-    "_Cilk_sync": Keyword("cilk_sync", "((void)0)", misplaced("it is a statement of its own")),
+    "_Cilk_sync": Keyword("cilk_sync", "do {} while (0)", misplaced("it is a statement of its own")),
     "_Cilk_for": Keyword("cilk_for", "for", misplaced("it begins a statement in a function")),
     "_Cilk_scope": Keyword("cilk_scope", "", misplaced("it begins a statement in a function")),
     "_Cilk_reducer": Keyword("cilk_reducer", "", OPENCILK),
@@ -43,7 +43,7 @@ KEYWORDS = {
 }
 ANY_KEYWORD = re.compile(rf"\b(?:{'|'.join(KEYWORDS)})\b")
 # Options with which clang reads the user's text as the serial elision.
-ELISION = [f"-D{word}{'(...)' if word == '_Cilk_reducer' else ''}={keyword.elision}" for word, keyword in KEYWORDS.items()]
+ELISION = [f"-D{word}{'(...)' if keyword.refusal == OPENCILK else ''}={keyword.elision}" for word, keyword in KEYWORDS.items()]
 WIDEST = 500                                                # such lines come from macros
 JUMPS = {"return", "break", "continue", "goto", "co_return", "co_yield", "co_await"}
 

@@ -107,10 +107,10 @@ def check_left(rewriter, begin, keyword):
         if {"static", "thread_local", "_Thread_local", "__thread"} & set(outside):
             source.refuse(keyword, "a cilk_spawn for a variable that is initialized once: assign to it")
         return declares
-    if any(word in ASSIGNMENTS for word in outside):
-        source.refuse(keyword, "a cilk_spawn behind a second =")
     if "," in outside:
         source.refuse(keyword, "a cilk_spawn behind a comma")
+    if any(word in ASSIGNMENTS for word in outside):
+        source.refuse(keyword, "a cilk_spawn behind a second =")
     if {"?", "&&", "||"} & set(outside):
         source.refuse(keyword, "a cilk_spawn that ?:, && or || decide on: write an if")
     return NOTHING
