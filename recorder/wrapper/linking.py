@@ -2,12 +2,11 @@
 import fcntl
 import os
 import shutil
-import struct
 import subprocess
 import sys
 from pathlib import Path
 
-from . import objects
+from . import elf, objects
 from .command_line import RECORDED, Input
 from .compiler import RECORDER, REFUSED
 from .processes import Failed, Output, say
@@ -99,25 +98,19 @@ class Link:
         return []
 
     def look(self, inputs, runtime):
-        """What nm says of the inputs."""
+        """What of the inputs is not seen inside."""
         files = []
         for it in inputs:
             files += [it.path] if isinstance(it, Input) else self.libraries(it)
-        whole = any("--whole-archive" in word for it in inputs if not isinstance(it, Input) for word in it)
-        names, dynamic = {str(runtime)}, [it for it in files if ".so" in os.path.basename(it)]
-        static = [it for it in files if it not in dynamic and os.path.isfile(it)]
-        listing = self.session.output_of(["nm", "-A", "-g", "-P", "--", *dict.fromkeys([*static, *names])])
-        if dynamic:
-            listing += self.session.output_of(["nm", "-A", "-D", "-P", "--defined-only", "--", *dict.fromkeys(dynamic)])
-        everything = objects.members(listing)
-        defined = set().union(*(it.defined for it in everything if it.file == str(runtime)))
-        program = [it for it in everything if it.file != str(runtime)]
-        for it in program:
-            it.in_archive &= not whole
+        program = [member for file in dict.fromkeys(files) for member in elf.members(file)]
+        if any("--whole-archive" in word for it in inputs if not isinstance(it, Input) for word in it):
+            for it in program:
+                it.in_archive = False
         program = objects.linked(program, {"main"})
         others = objects.other_versions(program)
         if others:
             raise Failed(REFUSED, f"refused: {others[0]} was compiled by another version of cilkcheck-cc: compile it again")
+        defined = set().union(*(it.defined for it in elf.members(runtime)))
         return objects.look(program, defined, "-r" in self.commands.for_linking())
 
     def renamed(self, inputs, own):
@@ -186,7 +179,7 @@ class Link:
 
     def tell_places(self, program):
         """The first of the places that the program itself notes as not seen."""
-        places = notes_of(program)
+        places = elf.notes(program)
         if places:
             more = f" (and {len(places) - 1} more)" if len(places) > 1 else ""
             say(f"not seen: {places[0]}{more}")
@@ -202,41 +195,3 @@ def folders_of(options):
     """The folders of -L."""
     joined = " ".join(options).replace("-L ", "-L").split()
     return [it.removeprefix("-L") for it in joined if it.startswith("-L")]
-
-
-def sections(image):
-    """The sections of a 64-bit ELF file: {name: (address, offset, bytes)}."""
-    if image[:5] != b"\x7fELF\x02" or len(image) < 64:
-        return {}
-    start, = struct.unpack_from("<Q", image, 0x28)
-    size, count, names = struct.unpack_from("<HHH", image, 0x3A)
-    rows = [struct.unpack_from("<IIQQQQ", image, start + index * size) for index in range(count)]
-    text = rows[names][4] if names < count else 0
-    return {image[text + row[0]:image.find(b"\0", text + row[0])].decode("ascii", "replace"): row[3:6] for row in rows}
-
-
-def notes_of(program):
-    """The rows of cilkcheck_notes that name a place (pass/rows.h), as FILE:LINE: WHAT."""
-    import mmap
-    with open(program, "rb") as file, mmap.mmap(file.fileno(), 0, access=mmap.ACCESS_READ) as image:
-        found = sections(image)
-        if "cilkcheck_notes" not in found:
-            return []
-        address, offset, size = found["cilkcheck_notes"]
-
-        def text(at):
-            """The text to which the reference in the file at `at` leads."""
-            far, = struct.unpack_from("<i", image, at)
-            target = address + at - offset + far
-            for begin, place, room in found.values():
-                if begin <= target < begin + room and begin:
-                    start = place + target - begin
-                    return image[start:image.find(b"\0", start)].decode("utf-8", "replace")
-            return ""
-
-        told = []
-        for at in range(offset, offset + size - 15, 16):
-            file_at, _, line, _ = struct.unpack_from("<iiII", image, at)
-            if file_at:
-                told.append(f"{text(at)}:{line}: {text(at + 4)}")
-        return sorted(set(told))

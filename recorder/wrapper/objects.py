@@ -6,7 +6,6 @@ from dataclasses import dataclass, field
 from . import names
 from .compiler import NAMES
 
-CODE, UNDEFINED, ABSENT = "TtWi", "Uwv", "wv"
 VERSION = "__cilkcheck_version_"
 KNOWN_VERSION = VERSION + "1"
 WRAPPED = "__cilkcheck_libc_"                               # before the name of a function of libc whose accesses the runtime tells
@@ -18,38 +17,16 @@ MOST_TOLD = 12
 
 @dataclass
 class Member:
-    """An object, or one of an archive."""
+    """An object, or one of an archive. One that was compiled with the pass refers to a `version`."""
     file: str
     in_archive: bool = False
-    is_recorded: bool = False
     version: str = None
-    defined: dict = field(default_factory=dict)             # the kind of each symbol, as nm has it
+    defined: dict = field(default_factory=dict)             # of each name: (is weak, is code)
     undefined: set = field(default_factory=set)
 
     @property
-    def has_code(self):
-        return any(kind in CODE for kind in self.defined.values())
-
-
-def members(listing):
-    """The members of what `nm -A -g -P` says, in order."""
-    found = {}
-    for line in listing.splitlines():
-        place, _, rest = line.partition(": ")
-        words = rest.split()
-        if len(words) < 2:
-            continue
-        if place not in found:
-            # (an archive's member stands in brackets)
-            found[place] = Member(place.partition("[")[0], place.endswith("]"))
-        member, name, kind = found[place], words[0].partition("@")[0], words[1]
-        if kind in UNDEFINED:
-            member.undefined.add(name)
-            if name.startswith(VERSION):
-                member.is_recorded, member.version = True, name
-        else:
-            member.defined[name] = kind
-    return list(found.values())
+    def is_recorded(self):
+        return self.version is not None
 
 
 def linked(all_members, roots):
@@ -72,8 +49,8 @@ def definers(program):
     """The member whose definition of each name the linker takes: the first one that is not weak, else the first."""
     strong, weak = {}, {}
     for it in program:
-        for name, kind in it.defined.items():
-            (weak if kind in "WVu" else strong).setdefault(name, it)
+        for name, (is_weak, _) in it.defined.items():
+            (weak if is_weak else strong).setdefault(name, it)
     return weak | strong
 
 
@@ -90,6 +67,10 @@ class Seen:
     own: list
 
 
+def defines_code(member, name):
+    return member.defined[name][1] or name.startswith("_ZTV")
+
+
 def look(program, runtime, is_partial=False):
     """`runtime`: the names that the runtime defines. Where the link is partial, what is missing is none of its business."""
     by_name, redirected, harmless = definers(program), listed("redirected"), listed("harmless")
@@ -98,14 +79,14 @@ def look(program, runtime, is_partial=False):
         if it.is_recorded:
             for name in it.undefined:
                 plain = name.removeprefix(WRAPPED)
-                if name != plain and plain in by_name and by_name[plain].defined[plain] in CODE:
+                if name != plain and plain in by_name and defines_code(by_name[plain], plain):
                     own.add(plain)
                 called.add(plain)
     unseen = set()
     for name in called:
         it = by_name.get(name)
         if it is not None:
-            if not it.is_recorded and (it.defined[name] in CODE or name.startswith("_ZTV")):
+            if not it.is_recorded and defines_code(it, name):
                 unseen.add(name)
         elif not is_partial and name not in runtime and name not in redirected and name not in harmless and not MADE.match(name):
             unseen.add(name)

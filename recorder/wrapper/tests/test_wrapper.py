@@ -13,6 +13,7 @@ from wrapper import names, objects  # noqa: E402
 from wrapper.command_line import Fault, Input, expand, parse, tokens  # noqa: E402
 from wrapper.compiler import VERSION, Compiler  # noqa: E402
 from wrapper.driver import passed_on, target_of  # noqa: E402
+from wrapper.objects import Member  # noqa: E402
 from wrapper.processes import Failed, Output, Session  # noqa: E402
 from wrapper.sources import Source  # noqa: E402
 
@@ -149,43 +150,29 @@ class Names(unittest.TestCase):
                 self.assertEqual(names.short(plain), told)
 
 
-LISTING = """\
-main.o: __cilkcheck_version_1 U
-main.o: __cilkcheck_libc_getline U
-main.o: __cilkcheck_libc_strlen U
-main.o: compress U
-main.o: counter U
-main.o: data U
-main.o: helper U
-main.o: inlined W 0 1
-main.o: main T 0 10
-main.o: sqrt U
-plain.o: counter D 0 4
-plain.o: getline T 0 10
-plain.o: inlined W 0 1
-plain.o: unknown U
-lib.a[used.o]: __cilkcheck_version_1 U
-lib.a[used.o]: deeper U
-lib.a[used.o]: helper T 0 10
-lib.a[unused.o]: __cilkcheck_version_1 U
-lib.a[unused.o]: nothing U
-lib.a[unused.o]: other T 0 10
-lib.a[plain.o]: deeper T 0 10
-table.o: data R 0 40
-"""
+def member(file, defined="", undefined="", weak="", data="", in_archive=False, is_recorded=False):
+    kinds = {**dict.fromkeys(defined.split(), (False, True)), **dict.fromkeys(weak.split(), (True, True)), **dict.fromkeys(data.split(), (False, False))}
+    return Member(file, in_archive, objects.KNOWN_VERSION if is_recorded else None, kinds, set(undefined.split()))
+
+
+def program():
+    return [
+        member("main.o", "main", "__cilkcheck_libc_getline __cilkcheck_libc_strlen compress counter data helper sqrt", "inlined", is_recorded=True),
+        member("plain.o", "getline", "unknown", "inlined", "counter"),
+        member("lib.a", "helper", "deeper", in_archive=True, is_recorded=True),
+        member("lib.a", "other", "nothing", in_archive=True, is_recorded=True),
+        member("lib.a", "deeper", in_archive=True),
+        member("table.o", data="data"),
+    ]
 
 
 class Objects(unittest.TestCase):
     def setUp(self):
-        self.members = objects.members(LISTING)
-        self.program = objects.linked(self.members, {"main"})
-
-    def test_members(self):
-        self.assertEqual([(it.file, it.in_archive, it.is_recorded) for it in self.members], [
-            ("main.o", False, True), ("plain.o", False, False), ("lib.a", True, True), ("lib.a", True, True), ("lib.a", True, False), ("table.o", False, False)])
+        self.program = objects.linked(program(), {"main"})
 
     def test_what_the_linker_takes(self):
-        self.assertEqual([sorted(it.defined)[0] for it in self.program], ["inlined", "counter", "helper", "deeper", "data"])
+        self.assertEqual([(it.file, sorted(it.defined)[0]) for it in self.program],
+                         [("main.o", "inlined"), ("plain.o", "counter"), ("lib.a", "helper"), ("lib.a", "deeper"), ("table.o", "data")])
 
     def test_not_seen(self):
         seen = objects.look(self.program, set())
@@ -195,10 +182,10 @@ class Objects(unittest.TestCase):
         self.assertEqual(objects.look(self.program, set(), is_partial=True).unseen, ["deeper", "getline"])
 
     def test_the_first_definition_counts(self):
-        members = objects.members("plain.o: inlined W 0 1\nmain.o: __cilkcheck_version_1 U\nmain.o: inlined W 0 1\nlater.o: __cilkcheck_version_1 U\nlater.o: inlined U\n")
-        self.assertEqual(objects.look(members, set()).unseen, ["inlined"])
-        strong = objects.members("plain.o: f W 0 1\nmain.o: __cilkcheck_version_1 U\nmain.o: f T 0 1\nlater.o: __cilkcheck_version_1 U\nlater.o: f U\n")
-        self.assertEqual(objects.look(strong, set()).unseen, [])
+        one, other = member("main.o", weak="f", is_recorded=True), member("later.o", undefined="f", is_recorded=True)
+        self.assertEqual(objects.look([member("plain.o", weak="f"), one, other], set()).unseen, ["f"])
+        self.assertEqual(objects.look([one, member("plain.o", weak="f"), other], set()).unseen, [])
+        self.assertEqual(objects.look([member("plain.o", weak="f"), member("main.o", "f", is_recorded=True), other], set()).unseen, [])
 
     def test_the_runtime_is_seen(self):
         self.assertEqual(objects.look(self.program, {"compress"}).unseen, ["deeper", "getline"])
@@ -210,7 +197,7 @@ class Objects(unittest.TestCase):
         self.assertEqual(objects.told([f"f{it:02}" for it in range(14)], demangle)[-19:], "f11, .. (14 in all)")
 
     def test_versions(self):
-        members = objects.members("a.o: __cilkcheck_version_1 U\nx/b.o: __cilkcheck_version_7 U\nc.o: f T 0 1\n")
+        members = [Member("a.o", version="__cilkcheck_version_1"), Member("x/b.o", version="__cilkcheck_version_7"), Member("c.o")]
         self.assertEqual(objects.other_versions(members), ["b.o"])
 
     def test_lists(self):
