@@ -13,7 +13,7 @@ const Value *base_of(const Value *pointer) {
       pointer = address->getPointerOperand();
     else if (auto *cast = dyn_cast<BitCastOperator>(pointer))
       pointer = cast->getOperand(0);
-#if LLVM_VERSION_MAJOR >= 15
+#if LLVM_VERSION_MAJOR >= 16
     else if (auto *call = dyn_cast<IntrinsicInst>(pointer); call && call->getIntrinsicID() == Intrinsic::threadlocal_address)
       pointer = call->getArgOperand(0);
 #endif
