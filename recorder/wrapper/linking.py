@@ -73,8 +73,8 @@ class Link:
             if not isinstance(it, Input):
                 out.append(it)
             elif it.language:
-                stem = os.path.splitext(os.path.basename(it.name))[0].replace("[", "_") if it.name != "-" else "stdin"
-                target = self.between(f"{at}-{stem}.o")
+                stem = os.path.splitext(os.path.basename(it.name))[0]
+                target = self.between(f"{at}-{stem if it.name != '-' else 'stdin'}.o")
                 if it.language in RECORDED:
                     Source(self.session, self.commands, self.compiler, self.plugin, self.cxx, it).compile("-c", target)
                 else:
@@ -89,13 +89,9 @@ class Link:
         name = "".join(words)
         if not name.startswith("-l"):
             return []
-        folders = folders_of(self.commands.for_linking())
-        for folder in folders:
-            for suffix in ((".so", ".a") if "-static" not in self.commands.for_linking() else (".a",)):
-                file = os.path.join(folder, f"lib{name[2:]}{suffix}")
-                if os.path.isfile(file):
-                    return [file]
-        return []
+        files = [name[3:]] if name.startswith("-l:") else [f"lib{name[2:]}.so", f"lib{name[2:]}.a"]
+        paths = (os.path.join(folder, file) for folder in folders_of(self.commands.for_linking()) for file in files)
+        return [it for it in paths if os.path.isfile(it)][:1]
 
     def look(self, inputs, runtime):
         """What of the inputs is not seen inside."""
@@ -107,10 +103,10 @@ class Link:
             for it in program:
                 it.in_archive = False
         program = objects.linked(program, {"main"})
-        others = objects.other_versions(program)
+        defined = set().union(*(it.defined for it in elf.members(runtime)))
+        others = objects.other_versions(program, defined)
         if others:
             raise Failed(REFUSED, f"refused: {others[0]} was compiled by another version of cilkcheck-cc: compile it again")
-        defined = set().union(*(it.defined for it in elf.members(runtime)))
         return objects.look(program, defined, "-r" in self.commands.for_linking())
 
     def renamed(self, inputs, own):
@@ -192,6 +188,6 @@ def assemble(session, commands, driver, source, stage, target):
 
 
 def folders_of(options):
-    """The folders of -L."""
-    joined = " ".join(options).replace("-L ", "-L").split()
-    return [it.removeprefix("-L") for it in joined if it.startswith("-L")]
+    """The folders of -L, and those that the environment names."""
+    named = [options[at + 1] if it == "-L" else it[2:] for at, it in enumerate(options) if it.startswith("-L")]
+    return [*named, *filter(None, os.environ.get("LIBRARY_PATH", "").split(":"))]

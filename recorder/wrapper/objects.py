@@ -7,7 +7,6 @@ from . import names
 from .compiler import NAMES
 
 VERSION = "__cilkcheck_version_"
-KNOWN_VERSION = VERSION + "1"
 WRAPPED = "__cilkcheck_libc_"                               # before the name of a function of libc whose accesses the runtime tells
 VTABLE = "vtable for "
 # what compilers and linkers make for themselves
@@ -105,6 +104,6 @@ def told(unseen, demangle):
     return ", ".join(texts[:MOST_TOLD]) + more
 
 
-def other_versions(program):
-    """The files that were compiled for another version of the runtime."""
-    return sorted({os.path.basename(it.file) for it in program if it.version and it.version != KNOWN_VERSION})
+def other_versions(program, runtime):
+    """The files that were compiled for another version of the runtime than the one that defines these names."""
+    return sorted({os.path.basename(it.file) for it in program if it.version and it.version not in runtime})

@@ -152,7 +152,7 @@ class Names(unittest.TestCase):
 
 def member(file, defined="", undefined="", weak="", data="", in_archive=False, is_recorded=False):
     kinds = {**dict.fromkeys(defined.split(), (False, True)), **dict.fromkeys(weak.split(), (True, True)), **dict.fromkeys(data.split(), (False, False))}
-    return Member(file, in_archive, objects.KNOWN_VERSION if is_recorded else None, kinds, set(undefined.split()))
+    return Member(file, in_archive, "__cilkcheck_version_1" if is_recorded else None, kinds, set(undefined.split()))
 
 
 def program():
@@ -198,7 +198,7 @@ class Objects(unittest.TestCase):
 
     def test_versions(self):
         members = [Member("a.o", version="__cilkcheck_version_1"), Member("x/b.o", version="__cilkcheck_version_7"), Member("c.o")]
-        self.assertEqual(objects.other_versions(members), ["b.o"])
+        self.assertEqual(objects.other_versions(members, {"main", "__cilkcheck_version_1"}), ["b.o"])
 
     def test_lists(self):
         harmless, redirected = objects.listed("harmless"), objects.listed("redirected")
