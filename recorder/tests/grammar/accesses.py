@@ -298,7 +298,8 @@ class PointerVariable(Statement):
         if not here.depth and not here.inner and draw.chance(0.6):
             return cls(first, None)
         inside = here.deeper(scope=[*here.scope, pointer], inner=True)
-        return cls(first, program.block(inside, program.random.randint(2, 3)) or None)
+        body = program.block(inside, program.random.randint(2, 3))
+        return cls(first, body) if body else None
 
     def write(self, out):
         if self.body:
