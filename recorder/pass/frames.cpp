@@ -154,7 +154,7 @@ void Frame::hook() {
   Constant *table = rows.empty() ? nullptr : recording.rows.table("cilkcheck_locals", rows, named);
   Row row = {Field::of_text(function_name(function)), Field::of_text(source ? source->name : module.getSourceFileName()),
              Field::of_reference(table), Field::of_number(line), Field::of_number(rows.size()),
-             Field::of_number(source && source->system ? CILKCHECK_SYSTEM : 0)};
+             Field::of_number(!source || source->system ? CILKCHECK_SYSTEM : 0)};
   Constant *frame = ConstantExpr::getPointerCast(recording.rows.table("cilkcheck_frames", {row}, named), types.pointer);
   // behind the return address the caller's stack begins
   Value *top = builder.CreateCall(Intrinsic::getDeclaration(&module, Intrinsic::addressofreturnaddress, {types.pointer}), {});

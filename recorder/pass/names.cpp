@@ -170,6 +170,22 @@ Names::Lvalue Names::element(Lvalue base, const GEPOperator &address) const {
   return base;
 }
 
+// What a memory cell without a name holds, where it is written once.
+static Value *only_value(Value *cell) {
+  Value *found = nullptr;
+  for (User *user : cell->users()) {
+    auto *store = dyn_cast<StoreInst>(user);
+    if (!store && !isa<LoadInst>(user) && !isa<BitCastInst>(user) && !isa<IntrinsicInst>(user))
+      return nullptr;
+    if (!store)
+      continue;
+    if (found || store->getPointerOperand() != cell)
+      return nullptr;
+    found = store->getValueOperand();
+  }
+  return found;
+}
+
 Names::Lvalue Names::lvalue(Value *pointer, unsigned depth) const {
   if (depth > 12)
     return {};
@@ -199,6 +215,8 @@ Names::Lvalue Names::lvalue(Value *pointer, unsigned depth) const {
     if (auto it = variables.find(load->getPointerOperand()); it != variables.end() && it->second.second)
       return {it->second.first->getName().str(), it->second.first->getType(), false};
     Lvalue holder = lvalue(load->getPointerOperand(), depth + 1);
+    if (auto *held = !holder && isa<AllocaInst>(load->getPointerOperand()) ? only_value(load->getPointerOperand()) : nullptr)
+      return lvalue(held, depth + 1);
     if (!holder)
       return holder;
     holder = walk(holder, 0, layout.getPointerSize(), true);

@@ -135,6 +135,8 @@ private:
 void forget_promises(Recording &recording);
 // Calls of libc's functions go to the runtime's wrappers. False: the list could not be read, and clang has been told.
 bool redirect_library(Recording &recording);
+// Puts functions that have no place in the source into their callers.
+void inline_placeless(Recording &recording);
 // The functions that are told, in order; fills `plain` and `coroutines`.
 std::vector<Function *> told_functions(Recording &recording);
 

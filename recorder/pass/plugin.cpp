@@ -24,6 +24,7 @@ struct RecordAccesses : PassInfoMixin<RecordAccesses> {
     forget_promises(recording);
     if (!redirect_library(recording))
       return PreservedAnalyses::none();
+    inline_placeless(recording);
     auto &functions = analyses.getResult<FunctionAnalysisManagerModuleProxy>(module).getManager();
     for (Function *function : told_functions(recording))
       record(recording, *function, functions);

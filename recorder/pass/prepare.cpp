@@ -1,10 +1,12 @@
 // What is changed in a module before it is told.
 #include "pass.h"
+#include "llvm/Analysis/InlineCost.h"
 #include "llvm/IR/Constants.h"
 #include "llvm/IR/GlobalIFunc.h"
 #include "llvm/IR/InstIterator.h"
 #include "llvm/IR/IntrinsicInst.h"
 #include "llvm/Support/LineIterator.h"
+#include "llvm/Transforms/Utils/Cloning.h"
 #include "versions.h"
 #include <cstdlib>
 
@@ -109,6 +111,44 @@ static std::set<const Function *> annotated(const Module &module, StringRef want
       found.insert(function);
   }
   return found;
+}
+
+// The headers of the processor's intrinsics say `always_inline` and `nodebug`: their accesses are those of the line that calls them.
+static bool has_no_place(const Function &function) {
+  return !function.isDeclaration() && function.hasFnAttribute(Attribute::AlwaysInline) && !function.getSubprogram() && !is_own(function) &&
+         !function.isInterposable() && !function.hasFnAttribute(Attribute::Naked);
+}
+
+void inline_placeless(Recording &recording) {
+  std::vector<Function *> placeless;
+  for (Function &function : recording.module)
+    if (has_no_place(function) && isInlineViable(function).isSuccess())
+      placeless.push_back(&function);
+  for (Function *function : placeless)
+    for (Instruction &it : instructions(*function))
+      if (auto *load = dyn_cast<LoadInst>(&it); load && load->use_empty())
+        load->setVolatile(true); // the inliner drops a read that nothing uses
+  bool changed = true;
+  for (unsigned depth = 0; changed && depth < 16; depth++) {
+    changed = false;
+    for (Function *function : placeless) {
+      SmallVector<CallBase *, 16> calls;
+      for (User *user : function->users())
+        if (auto *call = dyn_cast<CallBase>(user); call && call->getCalledFunction() == function && call->getFunction() != function && !call->isNoInline())
+          calls.push_back(call);
+      for (CallBase *call : calls) {
+        Function &caller = *call->getFunction();
+        InlineFunctionInfo info;
+        if (!InlineFunction(*call, info).isSuccess())
+          continue;
+        AttributeFuncs::mergeAttributesForInlining(caller, *function);
+        changed = true;
+      }
+    }
+  }
+  for (Function *function : placeless)
+    if (function->use_empty() && (function->hasLocalLinkage() || function->hasLinkOnceLinkage()))
+      function->eraseFromParent();
 }
 
 std::vector<Function *> told_functions(Recording &recording) {

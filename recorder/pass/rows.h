@@ -17,7 +17,7 @@ enum cilkcheck_kind {
   CILKCHECK_WRITE = 3
 };
 
-enum { CILKCHECK_SYSTEM = 1 /* in a header of the system's, or in recorder/include */ };
+enum { CILKCHECK_SYSTEM = 1 /* in a header of the system's, in recorder/include, or of no known file: the place is the caller's */ };
 
 /* Section cilkcheck_sites: a place in the source, of an access, a call or a mark. */
 struct cilkcheck_site {

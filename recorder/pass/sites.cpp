@@ -25,7 +25,7 @@ Constant *Sites::at(const DIFile *file, unsigned line, unsigned column, StringRe
   if (is_new)
     rows.push_back({Field::of_text(source ? source->name : module.getSourceFileName()), Field::of_text(function_text),
                     Field::of_text(name), Field::of_text(source ? source->code(line) : ""), Field::of_number(line),
-                    Field::of_number(column), Field::of_number(source && source->system ? CILKCHECK_SYSTEM : 0), Field::of_number(0)});
+                    Field::of_number(column), Field::of_number(!source || source->system ? CILKCHECK_SYSTEM : 0), Field::of_number(0)});
   if (!stand_in)
     stand_in = new GlobalVariable(module, types.i8, false, GlobalValue::ExternalLinkage, nullptr, "cilkcheck.sites");
   Constant *offset[] = {ConstantInt::get(types.i64, it->second * sizeof(cilkcheck_site))};

@@ -3,7 +3,7 @@
 #include <stdint.h>
 #define TOLD __attribute__((noinline))
 
-/* The headers' own functions are hooked: what they tell stands on their lines, so their intrinsics are called here. */
+
 typedef int v4i __attribute__((vector_size(16)));
 typedef int v8i __attribute__((vector_size(32)));
 typedef int v16i __attribute__((vector_size(64)));
@@ -36,5 +36,5 @@ void fences(void) { __builtin_ia32_mfence(); }
 unsigned carry(unsigned long long *p) { return __builtin_ia32_addcarryx_u64(0, 1, 2, p); } /* told: write8 *p */
 int own_lanes(v4i m, v4f v) { v4f own = {0}; __builtin_ia32_maskstoreps(&own, m, v); return own[0] > 0; }
 
-/* through the headers: their hooks are in the headers' functions, which are entered */
-void stored(int *p) { _mm_storeu_si128((void *)p, _mm_setzero_si128()); }
+
+

@@ -1,7 +1,7 @@
-/* expect: clean; unseen: inline assembly; inline assembly that touches memory */
+/* expect: clean; unseen: inline assembly; inline assembly that touches memory by a register */
 #include <cilk/cilk.h>
 int x;
-static void child(void) { __asm__ volatile("incl %0" : "+m"(x)); }
+static void child(void) { __asm__ volatile("incl (%0)" : : "r"(&x) : "memory"); }
 int main(void) {
   cilk_spawn child();
   x = 2;
