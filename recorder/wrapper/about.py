@@ -2,7 +2,7 @@
 import os
 import shutil
 
-from .compiler import SUPPORTED, Pass, found
+from .compiler import SUPPORTED, WANTED, Pass, found
 from .processes import Failed
 
 HELP = """\
@@ -31,7 +31,8 @@ clang --help lists the options of clang, man {name} says more of {name}.
 def tell(arguments, cxx):
     name = "cilkcheck-c++" if cxx else "cilkcheck-cc"
     if "--help" in arguments:
-        print(HELP.format(what="C++" if cxx else "C", name=name, suffix="cpp" if cxx else "c", first=SUPPORTED[0], last=SUPPORTED[-1]), end="")
+        what, suffix = ("C++", "cpp") if cxx else ("C", "c")
+        print(HELP.format(what=what, name=name, suffix=suffix, first=SUPPORTED[0], last=SUPPORTED[-1]), end="")
         return 0
     try:
         compiler = found()
@@ -40,8 +41,7 @@ def tell(arguments, cxx):
         print(f"{name}: {failed.text}")
         return failed.status
     if not asked.version or asked.major not in SUPPORTED:
-        what = asked.title or "no clang"
-        print(f"{name}: {asked.command} is {what}, with which no program is recorded (clang {SUPPORTED[0]} to {SUPPORTED[-1]})")
+        print(f"{name}: {asked.command} is {asked.title or 'no clang'}, and programs are recorded by {WANTED}")
         return 70
     known = Pass(asked).trusted()
     state = f"built, {known[2]}" if known else "not built yet: the first compile builds it"

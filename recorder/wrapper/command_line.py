@@ -5,34 +5,37 @@ from dataclasses import dataclass, field
 
 # Options whose value is the next argument; of those in JOINED it may also follow at once, as in -Idir.
 JOINED = (
-    "-I", "-D", "-U", "-L", "-l", "-o", "-x", "-T", "-F", "-u", "-z", "-e", "-B", "-A", "-G", "-V", "-MF", "-MT", "-MQ", "-MJ", "-isystem",
-    "-isystem-after", "-iquote", "-idirafter", "-include", "-imacros", "-iprefix", "-iwithprefix", "-iwithprefixbefore", "-isysroot",
-    "-iframework", "-rpath", "-mthread-model",
+    "-I", "-D", "-U", "-L", "-l", "-o", "-x", "-T", "-F", "-u", "-z", "-e", "-B", "-A", "-G", "-V", "-MF", "-MT", "-MQ",
+    "-MJ", "-isystem", "-isystem-after", "-iquote", "-idirafter", "-include", "-imacros", "-iprefix", "-iwithprefix",
+    "-iwithprefixbefore", "-isysroot", "-iframework", "-rpath", "-mthread-model",
 )
 SEPARATE = {
-    *JOINED, "-include-pch", "-Xlinker", "-Xpreprocessor", "-Xassembler", "-Xclang", "-Xanalyzer", "-Xopenmp-target", "-mllvm", "--param",
-    "-aux-info", "-dumpdir", "-target", "--sysroot", "-framework", "-arch", "-working-directory", "--config", "-gcc-toolchain", "-ivfsoverlay",
-    "--serialize-diagnostics", "-serialize-diagnostics", "-main-file-name", "-stack-usage-file",
+    *JOINED, "-include-pch", "-Xlinker", "-Xpreprocessor", "-Xassembler", "-Xclang", "-Xanalyzer", "-Xopenmp-target",
+    "-mllvm", "--param", "-aux-info", "-dumpdir", "-target", "--sysroot", "-framework", "-arch", "-working-directory",
+    "--config", "-gcc-toolchain", "-ivfsoverlay", "--serialize-diagnostics", "-serialize-diagnostics",
+    "-main-file-name", "-stack-usage-file",
 }
 LONG = {
-    "--compile": "-c", "--assemble": "-S", "--preprocess": "-E", "--dependencies": "-M", "--user-dependencies": "-MM", "--output": "-o",
-    "--write-dependencies": "-MD", "--write-user-dependencies": "-MMD", "--language": "-x", "--define-macro": "-D", "--undefine-macro": "-U",
-    "--include-directory": "-I", "--include": "-include", "--library-directory": "-L",
+    "--compile": "-c", "--assemble": "-S", "--preprocess": "-E", "--dependencies": "-M", "--user-dependencies": "-MM",
+    "--output": "-o", "--write-dependencies": "-MD", "--write-user-dependencies": "-MMD", "--language": "-x",
+    "--define-macro": "-D", "--undefine-macro": "-U", "--include-directory": "-I", "--include": "-include",
+    "--library-directory": "-L",
 }
 PREPROCESSOR = {
-    "-I", "-D", "-U", "-F", "-A", "-include", "-imacros", "-include-pch", "-isystem", "-isystem-after", "-iquote", "-idirafter", "-iprefix",
-    "-iwithprefix", "-iwithprefixbefore", "-iframework", "-Xpreprocessor",
+    "-I", "-D", "-U", "-F", "-A", "-include", "-imacros", "-include-pch", "-isystem", "-isystem-after", "-iquote",
+    "-idirafter", "-iprefix", "-iwithprefix", "-iwithprefixbefore", "-iframework", "-Xpreprocessor",
 }
 DEPENDENCIES = {"-MD", "-MMD", "-MP", "-MG", "-MV", "-MF", "-MT", "-MQ", "-MJ"}
 # in their place among the objects and archives
 AMONG_INPUTS = {"-l", "-Xlinker", "-T", "-u", "-z", "-e", "-framework", "-rpath"}
 LINKER = re.compile(
-    r"-L|--?static|-no-pie|-nopie|-pie|-static-pie|-rdynamic|-nostdlib(\+\+)?|-nostartfiles|-nodefaultlibs|-nolibc|-r|-static-lib.*|-shared-lib.*|-s"
-    r"|-fuse-ld=.*|--ld-path=.*|-stdlib\+\+-isystem"
+    r"-L|--?static|-no-?pie|-(static-)?pie|-rdynamic|-nostdlib(\+\+)?|-nostartfiles|-nodefaultlibs|-nolibc|-r|-s"
+    r"|-static-lib.*|-shared-lib.*|-fuse-ld=.*|--ld-path=.*|-stdlib\+\+-isystem"
 )
 LANGUAGES = {
-    ".c": "c", ".i": "cpp-output", ".ii": "c++-cpp-output", ".h": "c-header", ".s": "assembler", ".S": "assembler-with-cpp", ".asm": "assembler-with-cpp",
-    ".ll": "ir", ".bc": "ir", ".m": "objective-c", ".mm": "objective-c++", ".M": "objective-c++",
+    ".c": "c", ".i": "cpp-output", ".ii": "c++-cpp-output", ".h": "c-header", ".s": "assembler",
+    ".S": "assembler-with-cpp", ".asm": "assembler-with-cpp", ".ll": "ir", ".bc": "ir",
+    ".m": "objective-c", ".mm": "objective-c++", ".M": "objective-c++",
     **dict.fromkeys((".C", ".cc", ".CC", ".cp", ".cpp", ".CPP", ".cxx", ".CXX", ".c++", ".C++"), "c++"),
     **dict.fromkeys((".H", ".hh", ".hp", ".hpp", ".HPP", ".hxx", ".h++"), "c++-header"),
 }
@@ -41,19 +44,23 @@ RECORDED = {"c", "c++", "cpp-output", "c++-cpp-output"}
 
 # what the compilers of Cilk take and clang does not
 CILK = re.compile(
-    r"-f(no-)?(opencilk.*|cilkplus|cilk|detach|stripmine|csi|tapir|pedigrees)|-f(tapir|cilktool|csi)[-=].*|--opencilk-.*|--cilk.*|-(shared|static)-lib(cilktool|opencilk)"
-    r"|-lcilkrts.*|-lopencilk.*|-lcilksan.*|-lcilkscale.*"
+    r"-f(no-)?(opencilk.*|cilkplus|cilk|detach|stripmine|csi|tapir|pedigrees)|-f(tapir|cilktool|csi)[-=].*"
+    r"|--opencilk-.*|--cilk.*|-(shared|static)-lib(cilktool|opencilk)|-l(cilkrts|opencilk|cilksan|cilkscale).*"
 )
-# Instrumentation by other tools and optimization at link time do not go with a recording, the runtime is the one of OpenMP, and another manager of
-# passes would leave ours out.
+# Instrumentation by other tools and optimization at link time do not go with a recording, our runtime stands for that
+# of OpenMP, and another manager of passes would leave ours out.
 DROPPED = re.compile(
-    r"-f(no-)?sanitize.*|-f(no-)?lto.*|-f(no-)?fat-lto-objects|-f(no-)?(whole-program-vtables|split-lto-unit|virtual-function-elimination)|-pg?"
-    r"|-f(no-)?profile.*|-f(no-)?coverage.*|--coverage|-ftest-coverage|-f(no-)?(legacy|experimental-new)-pass-manager|-lomp|-lgomp|-liomp5|-save-temps.*"
-    r"|-f(no-)?openmp(-simd|=.*)?"
+    r"-f(no-)?sanitize.*|-f(no-)?lto.*|-f(no-)?(fat-lto-objects|whole-program-vtables|split-lto-unit)|-pg?"
+    r"|-save-temps.*|-f(no-)?virtual-function-elimination|-f(no-)?(profile|coverage).*|--coverage|-ftest-coverage"
+    r"|-f(no-)?(legacy|experimental-new)-pass-manager|-lomp|-lgomp|-liomp5|-f(no-)?openmp(-simd|=.*)?"
 )
-INFORMATION = re.compile(r"-dumpversion|-dumpfullversion|-dumpmachine|-dumpspecs|--?print-.*|--target-help|--autocomplete=.*|-cc1.*")
-MODES = {"-E": "preprocess", "-M": "preprocess", "-MM": "preprocess", "-c": "-c", "-S": "-S", "-fsyntax-only": "syntax", "--analyze": "syntax",
-         "-emit-ast": "syntax", "--precompile": "syntax", "-verify-pch": "syntax", "-###": "clang"}
+INFORMATION = re.compile(
+    r"-dumpversion|-dumpfullversion|-dumpmachine|-dumpspecs|--?print-.*|--target-help|--autocomplete=.*|-cc1.*"
+)
+MODES = {
+    "-c": "-c", "-S": "-S", "-###": "clang", **dict.fromkeys(("-E", "-M", "-MM"), "preprocess"),
+    **dict.fromkeys(("-fsyntax-only", "--analyze", "-emit-ast", "--precompile", "-verify-pch"), "syntax"),
+}
 # where several are given, the first in this list counts
 STRENGTH = ("clang", "preprocess", "syntax", "-S", "-c", "link")
 
@@ -64,7 +71,7 @@ class Fault(Exception):
 
 @dataclass(frozen=True)
 class Input:
-    """A file in the order of the command line; `language` of what is compiled, else None; `given`: it was told by -x."""
+    """A file in the order of the command line; `language` of what is compiled, else None; `given`: -x told it."""
     name: str
     language: str = None
     given: bool = False
@@ -128,7 +135,7 @@ class Commands:
                 at += 4
             elif words[at] == "-Xclang" and words[at + 1:at + 2] in (["-emit-pch"], ["-disable-llvm-passes"]):
                 at += 2
-            elif re.match(r"-f(debug-prefix-map|debug-compilation-dir|file-prefix-map|diagnostics-).*|-fmodules.*", words[at]):
+            elif re.match(r"-f(debug-prefix-map|debug-compilation-dir|file-prefix-map|diagnostics|modules)", words[at]):
                 at += 1
             else:
                 out.append(words[at])
@@ -143,9 +150,13 @@ QUOTED = re.compile(r"""\\(.)|"((?:\\.|[^"\\])*)"|'((?:\\.|[^'\\])*)'""", re.S)
 
 
 def tokens(text):
-    """The arguments in a response file, by the rules of GNU: quotes join, and a backslash before any character stands for it."""
+    """The arguments in a response file, by the rules of GNU: quotes join, a backslash takes the next as it is."""
     found = re.findall(r"""(?:\\.|"(?:\\.|[^"\\])*"|'(?:\\.|[^'\\])*'|[^\s"'\\]|["'\\])+""", text, re.S)
-    return [QUOTED.sub(lambda it: it[1] or re.sub(r"\\(.)", r"\1", it[2] or it[3] or "", flags=re.S), word) for word in found]
+
+    def plain(quoted):
+        return quoted[1] or re.sub(r"\\(.)", r"\1", quoted[2] or quoted[3] or "", flags=re.S)
+
+    return [QUOTED.sub(plain, word) for word in found]
 
 
 def expand(arguments, within=()):
@@ -171,8 +182,8 @@ def split_value(argument):
     if argument in SEPARATE or argument in MODES or argument in DEPENDENCIES:
         return argument, None
     for option in sorted(JOINED, key=len, reverse=True):
-        # (-static and -std are no -s, -export-dynamic is no -e, and so on)
-        if argument.startswith(option) and (len(option) > 2 or option in ("-I", "-D", "-U", "-L", "-l", "-o", "-x", "-T", "-F", "-B", "-u", "-z")):
+        # (-emit-llvm is no -e, -rdynamic no -r, and so on)
+        if argument.startswith(option) and (len(option) > 2 or option[1] in "IDULloxTFBuz"):
             if option == "-o" and argument.startswith("-objcmt") or argument in ("-undef", "-undefined"):
                 break
             return option, argument[len(option):]

@@ -16,7 +16,10 @@ RECORDER = Path(__file__).resolve().parent.parent
 PASS = RECORDER / "pass"
 NAMES = RECORDER / "names"
 SUPPORTED = range(14, 20)
-REFUSED = 70                                                # the status of a program, a run or a compiler that is refused
+WANTED = f"clang {SUPPORTED[0]} to {SUPPORTED[-1]} (CILKCHECK_CC names one)"
+REFUSED = 70                                                # the status where a program or a compiler is refused
+# what a make that runs the wrapper says to the makes that it runs
+MAKES = ("MAKEFLAGS", "MFLAGS", "MAKELEVEL", "CC", "CFLAGS", "CXX", "CXXFLAGS", "LDFLAGS")
 PLUGIN, TRUSTED = "cilkcheck.so", "trusted"
 VERSION = re.compile(r"\bclang version (\d+)(?:\.\d+)*")
 
@@ -45,19 +48,19 @@ class Compiler:
     def asked(self):
         """The same, with the version that it tells."""
         with suppress(OSError, subprocess.SubprocessError):
-            ran = subprocess.run([self.command, "--version"], stdin=subprocess.DEVNULL, capture_output=True, text=True, errors="replace", timeout=60)
-            found = VERSION.search(ran.stdout)
-            if found:
-                return Compiler(self.command, self.file, found[0].rpartition(" ")[2], ran.stdout.splitlines()[0].strip())
+            how = {"stdin": subprocess.DEVNULL, "capture_output": True, "text": True, "errors": "replace"}
+            told = subprocess.run([self.command, "--version"], **how).stdout
+            if it := VERSION.search(told):
+                return Compiler(self.command, self.file, it[0].rpartition(" ")[2], told.splitlines()[0].strip())
         return self
 
     def supported(self):
         """The same, with its version, or a refusal."""
         it = self if self.version else self.asked()
         if not it.version:
-            raise Failed(REFUSED, f"{self.command} is no clang: programs are recorded by clang {SUPPORTED[0]} to {SUPPORTED[-1]} (CILKCHECK_CC names one)")
+            raise Failed(REFUSED, f"{self.command} is no clang: programs are recorded by {WANTED}")
         if it.major not in SUPPORTED:
-            raise Failed(REFUSED, f"{self.command} is clang {it.version}: programs are recorded by clang {SUPPORTED[0]} to {SUPPORTED[-1]} (CILKCHECK_CC names one)")
+            raise Failed(REFUSED, f"{self.command} is clang {it.version}: programs are recorded by {WANTED}")
         return it
 
 
@@ -110,8 +113,8 @@ def locked(folder):
 
 
 class Pass:
-    """The pass for a compiler. A line of the file `trusted` says: of these sources this plugin was built, and by this compiler, which is of this
-    version, it tells each kind of access. The canary is a program that has them all."""
+    """The pass for a compiler. A line of the file `trusted` says: of these sources this plugin was built, and by this
+    compiler, which is of this version, it tells each kind of access. The canary is a program that has them all."""
 
     def __init__(self, compiler, session=None, places=None):
         self.compiler, self.session = compiler, session
@@ -159,7 +162,8 @@ class Pass:
         self.tried(plugin, place)
         line = "\t".join((self.tests, sum_of(plugin), compiler.version, compiler.identity, compiler.title))
         told = place / TRUSTED
-        old = [it for it in (told.read_text(encoding="utf-8").splitlines() if told.exists() else []) if it.startswith(self.tests)]
+        lines = told.read_text(encoding="utf-8").splitlines() if told.exists() else []
+        old = [it for it in lines if it.startswith(self.tests)]
         new = place / f"{TRUSTED}.{os.getpid()}"
         new.write_text("".join(f"{it}\n" for it in [*old, line]), encoding="utf-8")
         new.replace(told)
@@ -172,22 +176,25 @@ class Pass:
             return str(beside)
         config = shutil.which(f"llvm-config-{self.compiler.major}")
         if config:
-            told = subprocess.run([config, "--includedir"], stdin=subprocess.DEVNULL, capture_output=True, text=True).stdout.strip()
+            how = {"stdin": subprocess.DEVNULL, "capture_output": True, "text": True}
+            told = subprocess.run([config, "--includedir"], **how).stdout.strip()
             if told and os.path.exists(f"{told}/llvm/Passes/PassPlugin.h"):
                 return told
         package = f"llvm-{self.compiler.major}-dev"
-        raise Failed(1, f"the compiler pass needs the headers of LLVM {self.compiler.major}: install {package} (Debian, Ubuntu: apt-get install {package})")
+        why = f"the compiler pass needs the headers of LLVM {self.compiler.major}"
+        raise Failed(1, f"{why}: install {package} (Debian, Ubuntu: apt-get install {package})")
 
     def build(self, folder):
         headers = self.headers()
         by = shutil.which("g++") or shutil.which(self.compiler.command.replace("clang", "clang++")) or "c++"
         say(f"building the compiler pass for clang {self.compiler.version}, this once: 10 to 20 s")
-        env = {name: value for name, value in os.environ.items() if name not in ("MAKEFLAGS", "MFLAGS", "MAKELEVEL", "CXX", "CXXFLAGS", "LDFLAGS")}
-        words = ["make", "-s", "-C", PASS, f"-j{os.cpu_count() or 1}", f"OUT={folder}", f"INCLUDE={headers}", f"CXX={by}", f"CLANG={self.compiler.file}"]
+        env = {name: value for name, value in os.environ.items() if name not in MAKES}
+        words = ["make", "-s", "-C", PASS, f"-j{os.cpu_count() or 1}", f"OUT={folder}", f"INCLUDE={headers}"]
         log = folder / "log"
         try:
             folder.mkdir(parents=True, exist_ok=True)
             with open(log, "w", encoding="utf-8") as out:
+                words += [f"CXX={by}", f"CLANG={self.compiler.file}"]
                 status = self.session.start(words, stdin=subprocess.DEVNULL, stdout=out, stderr=out, env=env).wait()
             if status or not (folder / PLUGIN).exists():
                 last = log.read_text(errors="replace").splitlines()[-15:]
@@ -200,12 +207,13 @@ class Pass:
 
     def tried(self, plugin, place):
         """Compiles and runs the canary, which ends with status 0 where all of its accesses are told."""
-        name, folder = f"clang {self.compiler.version} ({self.compiler.file})", self.session.name(place / f"canary-{os.getpid()}")
+        name = f"clang {self.compiler.version} ({self.compiler.file})"
+        folder = self.session.name(place / f"canary-{os.getpid()}")
         try:
             folder.mkdir()
             for level in ("-O0", "-O2"):
                 program = folder / "canary"
-                clang = [self.compiler.command, "-w", "-g", "-gdwarf-4", level, *flags(plugin)]
+                clang = [self.compiler.command, "-w", level, *flags(plugin)]
                 for words in ([*clang, PASS / "canary.c", "-o", program], [program]):
                     status, said = self.tells(words, folder / "said")
                     if status:
@@ -223,8 +231,9 @@ class Pass:
 
 
 def flags(plugin):
-    """How clang is called so that the pass tells what it compiles: calls of libraries stay calls."""
-    return [f"-fpass-plugin={plugin}", "-fno-builtin"]
+    """How clang is called so that the pass tells what it compiles: with lines and names, and calls of libraries stay
+    calls. (Assembly of DWARF 5 has checksums of the files, which the rewritten text does not.)"""
+    return ["-g", "-gdwarf-4", f"-fpass-plugin={plugin}", "-fno-builtin"]
 
 
 def environment():

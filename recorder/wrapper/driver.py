@@ -54,7 +54,8 @@ def compile_each(session, commands, compiler, plugin, cxx):
     if commands.output and len(sources) > 1:
         raise Fault("cannot specify -o when generating multiple output files")
     if any(it.is_recorded for it in sources):
-        commands.unused = [word for it in commands.inputs if isinstance(it, list) or not it.language for word in (it if isinstance(it, list) else [it.path])]
+        words = [it if isinstance(it, list) else [] if it.language else [it.path] for it in commands.inputs]
+        commands.unused = [word for it in words for word in it]
     status = 0
     for it in sources:
         try:
@@ -74,7 +75,7 @@ def compile_each(session, commands, compiler, plugin, cxx):
 
 
 def make_headers(session, commands, compiler, cxx):
-    """A precompiled header is one of the serial elision: clang's own messages come by it, and what is recorded reads the header itself."""
+    """A precompiled header is of the serial elision, for clang's own messages. What is recorded reads the header."""
     from .sources import ELISION
     openmp = ["-fopenmp"] if commands.openmp else []
     stage = [commands.mode] if commands.mode in ("-c", "-S") else []
@@ -86,19 +87,21 @@ def build(commands, cxx):
     from .compiler import Pass, found
     from .sources import ELISION, OPENMP_UNREAD, OURS
     compiler = found()
-    files = commands.files()
-    has_files = bool(files)
-    if commands.mode == "clang" or not has_files or any(it.name == "-" and not it.language for it in files) and commands.mode != "preprocess":
+    files, mode = commands.files(), commands.mode
+    is_in_error = mode != "preprocess" and any(it.name == "-" and not it.language for it in files)
+    if mode == "clang" or not files or is_in_error:
         run_clang(commands, compiler, cxx, [])
-    is_preprocess = commands.mode == "preprocess"
-    if is_preprocess or commands.mode == "syntax":
+    if mode == "preprocess":
         compiler.supported()
-        run_clang(commands, compiler, cxx, OURS if is_preprocess else [*([] if commands.openmp else OPENMP_UNREAD), *ELISION])
+        run_clang(commands, compiler, cxx, OURS)
+    if mode == "syntax":
+        compiler.supported()
+        run_clang(commands, compiler, cxx, [*([] if commands.openmp else OPENMP_UNREAD), *ELISION])
     with Session() as session:
         compiler, plugin = Pass(compiler, session).find()
         if any(it.is_header for it in files):
             make_headers(session, commands, compiler, cxx)
-        elif commands.mode == "link":
+        elif mode == "link":
             from .linking import Link
             Link(session, commands, compiler, plugin, cxx).link()
         else:

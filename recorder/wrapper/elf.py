@@ -1,4 +1,4 @@
-"""Objects, archives and programs as files: their symbols, and the rows of what is not seen. No machine code is looked at."""
+"""Objects, archives and programs as files: their symbols, and the rows of what is not seen. No machine code is read."""
 import mmap
 import os
 import struct
@@ -63,8 +63,10 @@ class Elf:
             for name, info, _, section, _, _ in struct.iter_unpack("<IBBHQQ", self.image[begin:begin + table[5]]):
                 if info >> 4 == LOCAL or not name:
                     continue
-                kind = info & 15
-                is_code = kind in FUNCTIONS or kind == UNTYPED and 0 < section < len(self.sections) and bool(self.sections[section][2] & EXECUTABLE)
+                kind, is_code = info & 15, False
+                if kind == UNTYPED and 0 < section < len(self.sections):
+                    is_code = bool(self.sections[section][2] & EXECUTABLE)
+                is_code |= kind in FUNCTIONS
                 yield self.text(names + name), section == ABSENT, info >> 4 in (WEAK, UNIQUE), is_code
 
 
@@ -95,7 +97,9 @@ def archived(image, path):
         elif not is_table:
             place = int(name[1:]) if name[1:].isdigit() else None
             told = names[place:names.index(b"/\n", place)] if place is not None else name.rstrip(b"/")
-            yield from (Member(it.file, True, it.version, it.defined, it.undefined) for it in members(os.path.join(os.path.dirname(path), os.fsdecode(told))))
+            for it in members(os.path.join(os.path.dirname(path), os.fsdecode(told))):
+                it.in_archive = True
+                yield it
         at = begin + (size + size % 2 if is_table or not is_thin else 0)
 
 

@@ -1,4 +1,4 @@
-"""Links a recorded program: with the runtime, with what is not seen inside as a note, and under its name only when it is whole."""
+"""Links a recorded program: with the runtime, with a note of what is not seen, and under its name when it is whole."""
 import fcntl
 import os
 import shutil
@@ -8,7 +8,7 @@ from pathlib import Path
 
 from . import elf, objects
 from .command_line import RECORDED, Input
-from .compiler import RECORDER, REFUSED
+from .compiler import MAKES, RECORDER, REFUSED
 from .processes import Failed, Output, say
 from .sources import Source
 
@@ -47,7 +47,7 @@ def runtime_object():
     with lock:
         fcntl.flock(lock, fcntl.LOCK_EX)
         by = "gcc" if shutil.which("gcc") else "clang"
-        env = {name: value for name, value in os.environ.items() if name not in ("MAKEFLAGS", "MFLAGS", "MAKELEVEL", "CC", "CFLAGS")}
+        env = {name: value for name, value in os.environ.items() if name not in MAKES}
         words = ["make", "-s", "-C", str(RUNTIME), f"-j{os.cpu_count() or 1}", f"OUT={out}", f"CC={by}"]
         if subprocess.run(words, stdin=subprocess.DEVNULL, stdout=sys.stderr, env=env).returncode:
             raise Failed(1, "the runtime does not build")
@@ -106,12 +106,13 @@ class Link:
         defined = set().union(*(it.defined for it in elf.members(runtime)))
         others = objects.other_versions(program, defined)
         if others:
-            raise Failed(REFUSED, f"refused: {others[0]} was compiled by another version of cilkcheck-cc: compile it again")
+            why = "was compiled by another version of cilkcheck-cc: compile it again"
+            raise Failed(REFUSED, f"refused: {others[0]} {why}")
         return objects.look(program, defined, "-r" in self.commands.for_linking())
 
     def renamed(self, inputs, own):
-        """The inputs, in which the program's own functions with names of libc's have the names that the pass gave to their calls: those that the
-        runtime itself makes are of libc."""
+        """The inputs, in which the program's own functions with names of libc's have the names that the pass gave to
+        their calls, so that the runtime's own calls come to libc."""
         names, out = Path(self.between("own")), []
         names.write_text("".join(f"{it} {objects.WRAPPED}{it}\n" for it in own), encoding="ascii")
         for at, it in enumerate(inputs):
@@ -152,7 +153,8 @@ class Link:
         options = commands.for_linking()
         static = {"-static", "-static-pie", "--static"} & set(options)
         if static:
-            raise Failed(REFUSED, f"refused: {static.pop()}: the recorder has its own malloc, which a static C library has too; link without it")
+            why = "the recorder has its own malloc, which a static C library has too; link without it"
+            raise Failed(REFUSED, f"refused: {static.pop()}: {why}")
         is_partial = "-r" in options
         output = Output(self.session, commands.output or "a.out")
         inputs = self.compiled()
@@ -169,7 +171,8 @@ class Link:
         if not is_partial:
             words += [str(runtime), "-lm"]
         quiet = ["-Wno-unused-command-line-argument"] if sources else []
-        self.session.run([*self.compiler.driver(cxx), *quiet, *options, *words, "-o", output.made], stdin=subprocess.DEVNULL)
+        linker = [*self.compiler.driver(cxx), *quiet, *options]
+        self.session.run([*linker, *words, "-o", output.made], stdin=subprocess.DEVNULL)
         self.tell_places(output.made)
         output.done()
 
@@ -184,7 +187,8 @@ class Link:
 def assemble(session, commands, driver, source, stage, target):
     """What is compiled and not recorded: assembly, LLVM's own language, and languages that no Cilk is in."""
     words = [*commands.for_preprocessing(), *commands.arguments("warning", "debug", "dependencies")]
-    session.run([*driver, *words, "-Wno-unused-command-line-argument", stage, "-x", source.language, source.path, "-o", target], stdin=subprocess.DEVNULL)
+    words += ["-Wno-unused-command-line-argument", stage, "-x", source.language, source.path, "-o", target]
+    session.run([*driver, *words], stdin=subprocess.DEVNULL)
 
 
 def folders_of(options):

@@ -3,7 +3,9 @@ import re
 
 
 PIECE = re.compile(
-    r"(?<![\w])operator\s*(?:\(\)|\[\]|<=>|<<=|>>=|->\*|<<|>>|&&|\|\||\+\+|--|->|[-+*/%^&|~!=<>]=?|,)|->|[<({\[]|[>)}\]]|[^-<>(){}\[\]o]+|.", re.S
+    r"(?<![\w])operator\s*(?:\(\)|\[\]|<=>|<<=|>>=|->\*|<<|>>|&&|\|\||\+\+|--|->|[-+*/%^&|~!=<>]=?|,)"
+    r"|->|[<({\[]|[>)}\]]|[^-<>(){}\[\]o]+|.",
+    re.S,
 )
 
 
@@ -21,7 +23,7 @@ def outside(text):
 
 
 def short(plain):
-    """Without parameters, template arguments and return type: `std::vector<int>::push_back(int const&)` is `std::vector::push_back`."""
+    """Without parameters, template arguments and return type: `std::vector<int>::at(unsigned)` is `std::vector::at`."""
     plain = re.sub(r" \[clone [^]]*\]|\(anonymous namespace\)::|\.(?:constprop|isra|part|cold)\.?\d*", "", plain)
     lambda_at = re.search(r"::\{lambda\(|::'lambda|::\$_\d", plain)
     if lambda_at:

@@ -7,7 +7,7 @@ from . import names
 from .compiler import NAMES
 
 VERSION = "__cilkcheck_version_"
-WRAPPED = "__cilkcheck_libc_"                               # before the name of a function of libc whose accesses the runtime tells
+WRAPPED = "__cilkcheck_libc_"                               # before the names of libc whose accesses the runtime tells
 VTABLE = "vtable for "
 # what compilers and linkers make for themselves
 MADE = re.compile(r"_ZT[TISH]|_ZGV|_GLOBAL_OFFSET_TABLE_|__start_|__stop_|__cilkcheck_|_ZN\d+__cilkcheck_")
@@ -29,7 +29,7 @@ class Member:
 
 
 def linked(all_members, roots):
-    """Those that the linker takes: all objects, and of archives what defines a name that is missing; in the order of the command line."""
+    """Those that the linker takes: all objects, and of archives what defines a name that is missing."""
     taken = [not it.in_archive for it in all_members]
     missing = set(roots).union(*(it.undefined for it, is_taken in zip(all_members, taken) if is_taken))
     missing -= set().union(*(it.defined.keys() for it, is_taken in zip(all_members, taken) if is_taken))
@@ -55,8 +55,8 @@ def definers(program):
 
 def listed(*lists):
     """The names that stand first in the lines of these lists."""
-    lines = [line for name in lists for line in (NAMES / name).read_text(encoding="utf-8").splitlines() if line and not line.startswith("#")]
-    return {line.split()[0] for line in lines}
+    lines = [line for name in lists for line in (NAMES / name).read_text(encoding="utf-8").splitlines()]
+    return {line.split()[0] for line in lines if line and not line.startswith("#")}
 
 
 @dataclass
@@ -71,8 +71,8 @@ def defines_code(member, name):
 
 
 def look(program, runtime, is_partial=False):
-    """`runtime`: the names that the runtime defines. Where the link is partial, what is missing is none of its business."""
-    by_name, redirected, harmless = definers(program), listed("redirected"), listed("harmless")
+    """`runtime`: the names that the runtime defines. A partial link says nothing of what is missing."""
+    by_name, known = definers(program), runtime | listed("redirected", "harmless")
     called, own = set(), set()
     for it in program:
         if it.is_recorded:
@@ -87,7 +87,7 @@ def look(program, runtime, is_partial=False):
         if it is not None:
             if not it.is_recorded and defines_code(it, name):
                 unseen.add(name)
-        elif not is_partial and name not in runtime and name not in redirected and name not in harmless and not MADE.match(name):
+        elif not is_partial and name not in known and not MADE.match(name):
             unseen.add(name)
     return Seen(sorted(unseen), sorted(own))
 
@@ -98,7 +98,8 @@ def told(unseen, demangle):
     texts = []
     for name in unseen:
         it = plain[name]
-        texts.append(f"virtual functions of {names.short(it[len(VTABLE):])}" if it.startswith(VTABLE) else names.short(it))
+        is_table = it.startswith(VTABLE)
+        texts.append(f"virtual functions of {names.short(it[len(VTABLE):])}" if is_table else names.short(it))
     texts = sorted(set(texts))
     more = f", .. ({len(texts)} in all)" if len(texts) > MOST_TOLD else ""
     return ", ".join(texts[:MOST_TOLD]) + more

@@ -105,8 +105,8 @@ class Session:
 
     def output_of(self, command, given=None):
         """What a command prints."""
-        child = self.start(command, stdin=subprocess.PIPE if given is not None else subprocess.DEVNULL, stdout=subprocess.PIPE,
-                           stderr=subprocess.DEVNULL, text=True, errors="surrogateescape")
+        how = {"stdout": subprocess.PIPE, "stderr": subprocess.DEVNULL, "text": True, "errors": "surrogateescape"}
+        child = self.start(command, stdin=subprocess.DEVNULL if given is None else subprocess.PIPE, **how)
         return child.communicate(given)[0]
 
     def name(self, path):
@@ -129,7 +129,7 @@ class Session:
 
 
 class Output:
-    """A file that is made under another name beside it, and renamed when it is whole. What is no regular file is written in place."""
+    """A file that is made under another name beside it, and renamed when it is whole. A device is written in place."""
 
     def __init__(self, session, path):
         self.session, self.path = session, path

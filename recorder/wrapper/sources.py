@@ -1,4 +1,4 @@
-"""Compiles one source: clang says what it has to say of the user's text, while that text is rewritten and compiled with the pass."""
+"""Compiles one source: clang says what it has to say of the user's text, which is rewritten and compiled meanwhile."""
 import os
 import re
 import subprocess
@@ -15,6 +15,8 @@ OURS = ["-D__CILKCHECK__=1", "-isystem", str(INCLUDE)]
 ELISION = [*OURS, "-D__CILKCHECK_ELISION__=1", *KEYWORDS]
 # a #pragma omp that nobody reads is worth a warning, and no error
 OPENMP_UNREAD = ["-Wsource-uses-openmp", "-Wno-error=source-uses-openmp"]
+# what is told of the rewritten text is one line
+TERSE = ["-fno-crash-diagnostics", "-fno-color-diagnostics", "-fno-caret-diagnostics"]
 # each object that was compiled with the pass refers to it
 MARK = b"__cilkcheck_version_"
 # clang 14 crashes on some untied tasks; to a serial run the clause means nothing
@@ -38,7 +40,7 @@ class Source:
     """One source of a command line, and how it is compiled."""
 
     def __init__(self, session, commands, compiler, plugin, cxx, source):
-        self.session, self.commands, self.compiler, self.plugin, self.source = session, commands, compiler, plugin, source
+        self.session, self.commands, self.plugin, self.source = session, commands, plugin, source
         self.driver = compiler.driver(cxx)
         self.openmp = ["-fopenmp"] if commands.openmp else []
         self.is_cxx = source.is_cxx
@@ -67,8 +69,8 @@ class Source:
         # (only what is preprocessed has its macros replaced)
         language = {"cpp-output": "c", "c++-cpp-output": "c++"}[self.source.language] if is_preprocessed else None
         undefined = ["-undef"] if is_preprocessed else []
-        words = [*unread, *self.commands.for_syntax(), *self.openmp, *ELISION, *undefined, "-fsyntax-only", *self.input(language)]
-        return self.start([*self.driver, *words])
+        words = [*unread, *self.commands.for_syntax(), *self.openmp, *ELISION, *undefined, "-fsyntax-only"]
+        return self.start([*self.driver, *words, *self.input(language)])
 
     def preprocessed(self):
         """The text behind the preprocessor, or None with its status where there is none."""
@@ -80,8 +82,8 @@ class Source:
                     return file.read()
             except OSError:
                 return None
-        words = [*self.driver, "-w", *self.commands.for_preprocessing(), *self.openmp, *OURS, "-U_FORTIFY_SOURCE", "-E", *self.input()]
-        child = self.start(words, stdout=subprocess.PIPE, stderr=subprocess.DEVNULL)
+        words = [*self.driver, "-w", *self.commands.for_preprocessing(), *self.openmp, *OURS, "-U_FORTIFY_SOURCE", "-E"]
+        child = self.start([*words, *self.input()], stdout=subprocess.PIPE, stderr=subprocess.DEVNULL)
         text = child.stdout.read()
         child.stdout.close()
         return None if child.wait() else text
@@ -97,9 +99,9 @@ class Source:
         """The compiler on the rewritten text."""
         openmp = ["-fopenmp"] if b"#pragma omp" in text or re.search(rb"#[ \t]*pragma[ \t]+omp\b", text) else []
         language = "c++-cpp-output" if self.is_cxx else "cpp-output"
-        words = [*self.driver, *self.commands.for_compiling(), *openmp, "-w", "-g", "-gdwarf-4", *flags(self.plugin), "-fno-crash-diagnostics", "-fno-color-diagnostics",
-                 "-fno-caret-diagnostics", stage, "-x", language, "-", "-o", target]
-        return self.start(words, text, stdout=subprocess.DEVNULL, stderr=subprocess.PIPE, env=environment())
+        words = [*self.driver, *self.commands.for_compiling(), *openmp, "-w", *flags(self.plugin), *TERSE, stage]
+        how = {"stdout": subprocess.DEVNULL, "stderr": subprocess.PIPE, "env": environment()}
+        return self.start([*words, "-x", language, "-", "-o", target], text, **how)
 
     def compile(self, stage, target):
         """Compiles to the target. What clang has to say comes first; where it has errors, nothing else is said."""
@@ -124,7 +126,7 @@ class Source:
         if child.wait():
             raise self.unrecorded(said, child.returncode)
         if not is_marked(target):
-            raise Failed(REFUSED, f"refused: {self.source.name}: the compiler left the pass out (an option keeps it from running)")
+            raise Failed(REFUSED, f"refused: {self.source.name}: an option keeps the compiler pass from running")
 
     def unrecorded(self, said, status):
         """Why the rewritten text was not compiled, though clang takes the user's."""
