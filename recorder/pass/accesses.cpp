@@ -14,8 +14,8 @@ static FunctionCallee access_hook(Module &module, const std::string &name, Type 
   auto *function = dyn_cast<Function>(hook.getCallee());
   if (!function || !function->isDeclaration())
     return hook; // the canary has its own
-  // The hook keeps an account of its own; the program's memory stays in registers around it. It is neither dropped nor merged, since
-  // it writes, and marks and calls stay where they are, since they may write the same.
+  // The hook keeps an account of its own; the program's memory stays in registers around it. It is neither dropped nor
+  // merged, since it writes, and marks and calls stay where they are, since they may write the same.
   function->setDoesNotThrow();
   function->setWillReturn();
   set_only_own_memory(*function);
@@ -74,7 +74,8 @@ void Teller::emit(IRBuilder<> &builder, Value *pointer, Value *bytes, int kind, 
 
 void Teller::tell(Instruction &access, Value *pointer, Value *bytes, int kind, Instruction *before) {
   if (pointer->getType()->getPointerAddressSpace()) {
-    recording.note(access, "memory of a segment of its own (address space " + std::to_string(pointer->getType()->getPointerAddressSpace()) + ")");
+    recording.note(access, "memory of a segment of its own (address space " +
+                               std::to_string(pointer->getType()->getPointerAddressSpace()) + ")");
     return;
   }
   if (privacy.is_private(pointer))
@@ -82,7 +83,8 @@ void Teller::tell(Instruction &access, Value *pointer, Value *bytes, int kind, I
   IRBuilder<> builder(before ? before : &access);
   builder.SetCurrentDebugLocation(access.getDebugLoc());
   auto *known = dyn_cast<ConstantInt>(bytes);
-  emit(builder, pointer, bytes, kind, sites.of(access, names.access(pointer, known ? known->getZExtValue() : UINT64_MAX, !isa<CallBase>(access))));
+  emit(builder, pointer, bytes, kind,
+       sites.of(access, names.access(pointer, known ? known->getZExtValue() : UINT64_MAX, !isa<CallBase>(access))));
 }
 
 void Teller::tell(Instruction &access, Value *pointer, uint64_t bytes, int kind, Instruction *before) {
@@ -149,7 +151,8 @@ void Teller::tell_assembly(CallBase &call) {
     recording.note(call, "inline assembly");
 }
 
-// libatomic's functions, for objects that no instruction can access at once. Their lists of arguments are those of its ABI.
+// libatomic's functions, for objects that no instruction can access at once. Their lists of arguments are those of its
+// ABI.
 bool Teller::tell_atomic_library(CallBase &call) {
   auto *callee = call.getCalledFunction();
   if (!callee || !callee->isDeclaration() || !begins_with(callee->getName(), "__atomic_") || !isa<CallInst>(call))
@@ -168,10 +171,12 @@ bool Teller::tell_atomic_library(CallBase &call) {
       if (!privacy.is_private(argument(0))) {
         IRBuilder<> builder(behind);
         builder.SetCurrentDebugLocation(call.getDebugLoc());
-        Value *kind = builder.CreateSelect(builder.CreateIsNotNull(&call), builder.getInt32(CILKCHECK_ATOMIC_WRITE), builder.getInt32(CILKCHECK_ATOMIC_READ));
+        Value *kind = builder.CreateSelect(builder.CreateIsNotNull(&call), builder.getInt32(CILKCHECK_ATOMIC_WRITE),
+                                           builder.getInt32(CILKCHECK_ATOMIC_READ));
         emit(builder, argument(0), builder.getInt64(bytes), kind, sites.of(call, names.access(argument(0), bytes)));
         if (!privacy.is_private(argument(1)))
-          emit(builder, argument(1), builder.CreateSelect(builder.CreateIsNotNull(&call), builder.getInt64(0), builder.getInt64(bytes)),
+          emit(builder, argument(1),
+               builder.CreateSelect(builder.CreateIsNotNull(&call), builder.getInt64(0), builder.getInt64(bytes)),
                builder.getInt32(CILKCHECK_WRITE), sites.of(call, names.access(argument(1), bytes)));
       }
     } else
@@ -195,11 +200,13 @@ bool Teller::tell_atomic_library(CallBase &call) {
     builder.SetCurrentDebugLocation(call.getDebugLoc());
     Value *done = builder.CreateIsNotNull(&call);
     if (!privacy.is_private(argument(1)))
-      emit(builder, argument(1), argument(0),
-           builder.CreateSelect(done, builder.getInt32(CILKCHECK_ATOMIC_WRITE), builder.getInt32(CILKCHECK_ATOMIC_READ)), sites.of(call, names.access(argument(1), UINT64_MAX)));
+      emit(
+          builder, argument(1), argument(0),
+          builder.CreateSelect(done, builder.getInt32(CILKCHECK_ATOMIC_WRITE), builder.getInt32(CILKCHECK_ATOMIC_READ)),
+          sites.of(call, names.access(argument(1), UINT64_MAX)));
     if (!privacy.is_private(argument(2)))
-      emit(builder, argument(2), builder.CreateSelect(done, ConstantInt::get(argument(0)->getType(), 0), argument(0)), builder.getInt32(CILKCHECK_WRITE),
-           sites.of(call, names.access(argument(2), UINT64_MAX)));
+      emit(builder, argument(2), builder.CreateSelect(done, ConstantInt::get(argument(0)->getType(), 0), argument(0)),
+           builder.getInt32(CILKCHECK_WRITE), sites.of(call, names.access(argument(2), UINT64_MAX)));
   } else
     return false;
   return true;
@@ -213,7 +220,8 @@ void Teller::tell_call(CallBase &call) {
   for (unsigned i = 0; i < call.arg_size(); i++)
     if (call.isByValArgument(i))
       tell(call, call.getArgOperand(i), call.getParamByValType(i), CILKCHECK_READ);
-  // What a function that is not compiled here returns in memory; where it is recorded elsewhere, its own accesses are the same strand's.
+  // What a function that is not compiled here returns in memory; where it is recorded elsewhere, its own accesses are
+  // the same strand's.
   auto *callee = dyn_cast<Function>(call.getCalledOperand()->stripPointerCasts());
   if (callee && !callee->isDeclaration() && !callee->isInterposable() && !recording.plain.count(callee))
     return;
@@ -222,14 +230,16 @@ void Teller::tell_call(CallBase &call) {
       Instruction *behind = call.getNextNode();
       if (auto *invoke = dyn_cast<InvokeInst>(&call)) {
         // a block of this edge's own
-        BasicBlock *normal = invoke->getNormalDest(), *block = BasicBlock::Create(call.getContext(), "cilkcheck.returned", &function, normal);
+        BasicBlock *normal = invoke->getNormalDest(),
+                   *block = BasicBlock::Create(call.getContext(), "cilkcheck.returned", &function, normal);
         behind = BranchInst::Create(normal, block);
         behind->setDebugLoc(call.getDebugLoc());
         normal->replacePhiUsesWith(invoke->getParent(), block);
         invoke->setNormalDest(block);
       } else if (!behind || call.isMustTailCall())
         continue; // the memory is the caller's caller's, which tells it
-      tell(call, call.getArgOperand(i), call.getParamAttr(i, Attribute::StructRet).getValueAsType(), CILKCHECK_WRITE, behind);
+      tell(call, call.getArgOperand(i), call.getParamAttr(i, Attribute::StructRet).getValueAsType(), CILKCHECK_WRITE,
+           behind);
     }
 }
 
@@ -241,7 +251,8 @@ void Teller::tell_all() {
     if (auto *load = dyn_cast<LoadInst>(it))
       tell(*it, load->getPointerOperand(), load->getType(), load->isAtomic() ? CILKCHECK_ATOMIC_READ : CILKCHECK_READ);
     else if (auto *store = dyn_cast<StoreInst>(it))
-      tell(*it, store->getPointerOperand(), store->getValueOperand()->getType(), store->isAtomic() ? CILKCHECK_ATOMIC_WRITE : CILKCHECK_WRITE);
+      tell(*it, store->getPointerOperand(), store->getValueOperand()->getType(),
+           store->isAtomic() ? CILKCHECK_ATOMIC_WRITE : CILKCHECK_WRITE);
     else if (auto *update = dyn_cast<AtomicRMWInst>(it))
       tell(*it, update->getPointerOperand(), update->getValOperand()->getType(), CILKCHECK_ATOMIC_WRITE);
     else if (auto *exchange = dyn_cast<AtomicCmpXchgInst>(it))

@@ -1,15 +1,25 @@
-/* One access of each kind, told as the pass should. The wrapper compiles and runs this once for each compiler, and refuses a compiler that
-   fails. */
+/* One access of each kind, told as the pass should. The wrapper compiles and runs this once for each compiler, and
+   refuses a compiler that fails. */
 #include "canary_hooks.c"
 #include <alloca.h>
 #include <stdarg.h>
 
 enum { READ, LOAD, UPDATE, WRITE };
-#define TOLD(statement, at, bytes, kind) do { canary_begin(#statement); statement; canary_told(__LINE__, at, bytes, kind); } while (0)
+#define TOLD(statement, at, bytes, kind)                                                                               \
+  do {                                                                                                                 \
+    canary_begin(#statement);                                                                                          \
+    statement;                                                                                                         \
+    canary_told(__LINE__, at, bytes, kind);                                                                            \
+  } while (0)
 #define APART __attribute__((noinline))
 
-struct bits { unsigned a : 3, b : 29; } bits;
-struct node { int value; double re; } __attribute__((packed)) node;
+struct bits {
+  unsigned a : 3, b : 29;
+} bits;
+struct node {
+  int value;
+  double re;
+} __attribute__((packed)) node;
 struct canary_big big, other;
 char c;
 short s;
@@ -142,7 +152,9 @@ APART static void locals(int n) {
 /* whatever its attributes say */
 enum { PURE = __LINE__ + 1 };
 __attribute__((pure, noinline)) static int reads(void) { return i; }
-__attribute__((no_sanitize("thread"), disable_sanitizer_instrumentation, optnone, noinline)) static void writes(void) { TOLD(i = 3, &i, 4, WRITE); }
+__attribute__((no_sanitize("thread"), disable_sanitizer_instrumentation, optnone, noinline)) static void writes(void) {
+  TOLD(i = 3, &i, 4, WRITE);
+}
 __attribute__((target_clones("sse4.2", "default"))) void cloned(void) { TOLD(i = 3, &i, 4, WRITE); }
 
 int main(void) {

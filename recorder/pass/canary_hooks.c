@@ -1,16 +1,29 @@
-/* The hooks of canary.c: they keep what is told. The pass leaves out what is PLAIN, and the hooks themselves. No function of the library
-   is called: the pass would send its call to the runtime, which is not there. */
+/* The hooks of canary.c: they keep what is told. The pass leaves out what is PLAIN, and the hooks themselves. No
+   function of the library is called: the pass would send its call to the runtime, which is not there. */
 #include "rows.h"
 #include <stddef.h>
 #define PLAIN __attribute__((annotate("cilkcheck_plain"), noinline))
 
-struct canary_big { long x[6]; };
-static struct told { const void *at; size_t bytes; int kind; const struct cilkcheck_site *site; } log_[256];
-static struct entered { const char *locals; const struct cilkcheck_frame *frame; } frames[64];
+struct canary_big {
+  long x[6];
+};
+static struct told {
+  const void *at;
+  size_t bytes;
+  int kind;
+  const struct cilkcheck_site *site;
+} log_[256];
+static struct entered {
+  const char *locals;
+  const struct cilkcheck_frame *frame;
+} frames[64];
 static unsigned count, told, wrong;
 static int depth;
 static const char *doing = "";
-static struct { const void *at; size_t bytes; } dynamic;
+static struct {
+  const void *at;
+  size_t bytes;
+} dynamic;
 
 const struct cilkcheck_site *__cilkcheck_place;
 const char __cilkcheck_version_1;
@@ -19,11 +32,16 @@ void __cilkcheck_access(const void *at, size_t bytes, int kind, const struct cil
   if (bytes && count < sizeof log_ / sizeof *log_)
     log_[count++] = (struct told){at, bytes, kind, site};
 }
-#define SIZED(n) \
-  void __cilkcheck_read##n(const void *at, const struct cilkcheck_site *site) { __cilkcheck_access(at, n, CILKCHECK_READ, site); } \
-  void __cilkcheck_write##n(const void *at, const struct cilkcheck_site *site) { __cilkcheck_access(at, n, CILKCHECK_WRITE, site); }
-SIZED(1) SIZED(2) SIZED(4) SIZED(8) SIZED(16)
-void __cilkcheck_enter(const void *top, const void *locals, const struct cilkcheck_frame *frame) {
+#define SIZED(n)                                                                                                       \
+  void __cilkcheck_read##n(const void *at, const struct cilkcheck_site *site) {                                        \
+    __cilkcheck_access(at, n, CILKCHECK_READ, site);                                                                   \
+  }                                                                                                                    \
+  void __cilkcheck_write##n(const void *at, const struct cilkcheck_site *site) {                                       \
+    __cilkcheck_access(at, n, CILKCHECK_WRITE, site);                                                                  \
+  }
+SIZED(1)
+SIZED(2) SIZED(4) SIZED(8)
+    SIZED(16) void __cilkcheck_enter(const void *top, const void *locals, const struct cilkcheck_frame *frame) {
   if (depth < 64)
     frames[depth] = (struct entered){locals, frame};
   depth++;

@@ -14,7 +14,8 @@ const Value *base_of(const Value *pointer) {
     else if (auto *cast = dyn_cast<BitCastOperator>(pointer))
       pointer = cast->getOperand(0);
 #if LLVM_VERSION_MAJOR >= 16
-    else if (auto *call = dyn_cast<IntrinsicInst>(pointer); call && call->getIntrinsicID() == Intrinsic::threadlocal_address)
+    else if (auto *call = dyn_cast<IntrinsicInst>(pointer);
+             call && call->getIntrinsicID() == Intrinsic::threadlocal_address)
       pointer = call->getArgOperand(0);
 #endif
     else
@@ -83,8 +84,9 @@ bool escapes(const Value &memory, const Hooks &hooks) {
 
 bool Privacy::is_private(const Value *pointer) {
   const Value *base = base_of(pointer);
+  // What is declared `extern const` here may be a variable where it is defined.
   if (auto *global = dyn_cast<GlobalVariable>(base))
-    return global->isConstant() || begins_with(global->getName(), "llvm.");
+    return (global->isConstant() && global->hasInitializer()) || begins_with(global->getName(), "llvm.");
   auto *argument = dyn_cast<Argument>(base);
   if (!isa<AllocaInst>(base) && !(argument && argument->hasByValAttr()))
     return false;

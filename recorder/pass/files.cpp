@@ -18,7 +18,8 @@ static std::string normal(StringRef path) {
   return std::string(absolute);
 }
 
-SourceFile::SourceFile(const DIFile &file, StringRef unit_directory, StringRef own_headers) : name(file.getFilename()), path(name) {
+SourceFile::SourceFile(const DIFile &file, StringRef unit_directory, StringRef own_headers)
+    : name(file.getFilename()), path(name) {
   // clang takes apart what a file's path and the working directory begin with
   if (!sys::path::is_absolute(path) && !file.getDirectory().empty()) {
     path = (file.getDirectory() + "/" + path).str();
@@ -26,8 +27,9 @@ SourceFile::SourceFile(const DIFile &file, StringRef unit_directory, StringRef o
       name = path;
   }
   std::string where = normal(path);
-  system = begins_with(where, "/usr/include/") || begins_with(where, "/usr/lib/") || begins_with(path, "/usr/include/") ||
-           begins_with(path, "/usr/lib/") || (!own_headers.empty() && begins_with(where, own_headers));
+  system = begins_with(where, "/usr/include/") || begins_with(where, "/usr/lib/") ||
+           begins_with(path, "/usr/include/") || begins_with(path, "/usr/lib/") ||
+           (!own_headers.empty() && begins_with(where, own_headers));
 }
 
 StringRef SourceFile::code(unsigned line) {

@@ -19,7 +19,8 @@ void copy_arguments(Recording &recording, Function &function) {
     auto *copy = builder.CreateAlloca(type, nullptr, argument.getName());
     copy->setAlignment(align);
     argument.replaceAllUsesWith(copy);
-    builder.CreateMemCpy(copy, align, &argument, argument.getParamAlign(), recording.layout.getTypeAllocSize(type).getFixedValue());
+    builder.CreateMemCpy(copy, align, &argument, argument.getParamAlign(),
+                         recording.layout.getTypeAllocSize(type).getFixedValue());
   }
 }
 
@@ -30,7 +31,8 @@ static uint64_t local_bytes(const Recording &recording, const AllocaInst &local)
 
 static bool is_marked(const CallBase &call, const Hooks &hooks) {
   auto *callee = call.getCalledFunction();
-  return callee && begins_with(callee->getName(), "__cilkcheck_") && !begins_with(callee->getName(), "__cilkcheck_libc_") && !hooks.tells(&call);
+  return callee && begins_with(callee->getName(), "__cilkcheck_") &&
+         !begins_with(callee->getName(), "__cilkcheck_libc_") && !hooks.tells(&call);
 }
 
 // What a call puts on the stack for the callee to read.
@@ -74,10 +76,12 @@ void Frame::collect() {
   for (Instruction &it : instructions(function)) {
     if (auto *local = dyn_cast<AllocaInst>(&it)) {
       if (!local->isSwiftError() && !local->isUsedWithInAlloca() && escapes(*local, recording.hooks))
-        (local->isStaticAlloca() && !recording.layout.getTypeAllocSize(local->getAllocatedType()).isScalable() ? locals : lists).push_back(local);
+        (local->isStaticAlloca() && !recording.layout.getTypeAllocSize(local->getAllocatedType()).isScalable() ? locals
+                                                                                                               : lists)
+            .push_back(local);
     } else if (auto *call = dyn_cast<CallBase>(&it)) {
       calls |= !isa<IntrinsicInst>(call);
-      needed |= is_marked(*call, recording.hooks) || passes_list(*call) || (source && source->system && !isa<IntrinsicInst>(call));
+      needed |= is_marked(*call, recording.hooks) || passes_list(*call);
       if (auto *intrinsic = dyn_cast<IntrinsicInst>(call))
         needed |= intrinsic->getIntrinsicID() == Intrinsic::vastart;
     }
@@ -91,8 +95,9 @@ void Frame::tell_lists() {
     auto *variable = names.variable(list);
     IRBuilder<> builder(list->getNextNode());
     builder.SetCurrentDebugLocation(list->getDebugLoc());
-    Value *bytes = builder.CreateMul(builder.CreateZExtOrTrunc(list->getArraySize(), types.i64),
-                                     builder.getInt64(recording.layout.getTypeAllocSize(list->getAllocatedType()).getKnownMinValue()));
+    Value *bytes = builder.CreateMul(
+        builder.CreateZExtOrTrunc(list->getArraySize(), types.i64),
+        builder.getInt64(recording.layout.getTypeAllocSize(list->getAllocatedType()).getKnownMinValue()));
     builder.CreateCall(recording.hooks.dynamic, {builder.CreatePointerCast(list, types.pointer), bytes,
                                                  sites.of(*list, variable ? variable->getName() : "")});
   }
@@ -116,7 +121,8 @@ Value *Frame::join(IRBuilder<> &builder, std::vector<Row> &rows) {
   for (unsigned i = 0; i < locals.size(); i++) {
     AllocaInst *local = locals[i];
     auto *variable = names.variable(local);
-    rows.push_back({Field::of_text(variable ? variable->getName() : ""), Field::of_number(offsets[i]), Field::of_number(local_bytes(recording, *local)),
+    rows.push_back({Field::of_text(variable ? variable->getName() : ""), Field::of_number(offsets[i]),
+                    Field::of_number(local_bytes(recording, *local)),
                     Field::of_number(variable ? variable->getLine() : 0)});
     // the part lives as long as the frame
     std::vector<Instruction *> lives;
@@ -124,7 +130,8 @@ Value *Frame::join(IRBuilder<> &builder, std::vector<Row> &rows) {
     while (!same.empty())
       for (User *user : same.pop_back_val()->users()) {
         auto *call = dyn_cast<IntrinsicInst>(user);
-        if (call && (call->getIntrinsicID() == Intrinsic::lifetime_start || call->getIntrinsicID() == Intrinsic::lifetime_end))
+        if (call &&
+            (call->getIntrinsicID() == Intrinsic::lifetime_start || call->getIntrinsicID() == Intrinsic::lifetime_end))
           lives.push_back(call);
         else if (isa<BitCastInst>(user))
           same.push_back(user);
@@ -152,12 +159,16 @@ void Frame::hook() {
   std::vector<Row> rows;
   Value *begin = join(builder, rows);
   Constant *table = rows.empty() ? nullptr : recording.rows.table("cilkcheck_locals", rows, named);
-  Row row = {Field::of_text(function_name(function)), Field::of_text(source ? source->name : module.getSourceFileName()),
-             Field::of_reference(table), Field::of_number(line), Field::of_number(rows.size()),
+  Row row = {Field::of_text(function_name(function)),
+             Field::of_text(source ? source->name : module.getSourceFileName()),
+             Field::of_reference(table),
+             Field::of_number(line),
+             Field::of_number(rows.size()),
              Field::of_number(!source || source->system ? CILKCHECK_SYSTEM : 0)};
   Constant *frame = ConstantExpr::getPointerCast(recording.rows.table("cilkcheck_frames", {row}, named), types.pointer);
   // behind the return address the caller's stack begins
-  Value *top = builder.CreateCall(Intrinsic::getDeclaration(&module, Intrinsic::addressofreturnaddress, {types.pointer}), {});
+  Value *top =
+      builder.CreateCall(Intrinsic::getDeclaration(&module, Intrinsic::addressofreturnaddress, {types.pointer}), {});
   top = builder.CreateConstGEP1_64(types.i8, top, recording.layout.getPointerSize());
   builder.CreateCall(recording.hooks.enter, {top, begin, frame});
   for (AllocaInst *it : locals)

@@ -41,7 +41,8 @@ void Teller::tell_lanes(IntrinsicInst &call, Value *pointer, Type *type, Value *
 }
 
 // base + index * scale, for each lane
-void Teller::tell_indexed(IntrinsicInst &call, Value *base, Value *indices, Value *scale, Value *mask, Type *type, int kind) {
+void Teller::tell_indexed(IntrinsicInst &call, Value *base, Value *indices, Value *scale, Value *mask, Type *type,
+                          int kind) {
   auto *vector = cast<FixedVectorType>(type);
   uint64_t bytes = recording.layout.getTypeStoreSize(vector->getElementType()).getFixedValue();
   unsigned lanes = std::min(vector->getNumElements(), cast<FixedVectorType>(indices->getType())->getNumElements());
@@ -51,7 +52,8 @@ void Teller::tell_indexed(IntrinsicInst &call, Value *base, Value *indices, Valu
   scale = builder.CreateZExt(scale, recording.types.i64);
   for (unsigned lane = 0; lane < lanes; lane++) {
     Value *size = builder.CreateSelect(lane_bit(builder, mask, lane), builder.getInt64(bytes), builder.getInt64(0));
-    Value *offset = builder.CreateMul(builder.CreateSExt(builder.CreateExtractElement(indices, uint64_t(lane)), recording.types.i64), scale);
+    Value *offset = builder.CreateMul(
+        builder.CreateSExt(builder.CreateExtractElement(indices, uint64_t(lane)), recording.types.i64), scale);
     emit(builder, builder.CreateGEP(recording.types.i8, base, offset), size, kind, site);
   }
 }
@@ -83,8 +85,8 @@ bool Teller::tell_x86(IntrinsicInst &call, StringRef name) {
   auto argument = [&](unsigned i) { return call.getArgOperand(i); };
   auto ends = [&](StringRef suffix) { return ends_with(name, suffix); };
   auto has = [&](StringRef part) { return name.contains(part); };
-  if (has("prefetch") || has("gatherpf") || has("scatterpf") || has("clflush") || has("clwb") || has("cldemote") || has("umonitor") ||
-      has("monitor"))
+  if (has("prefetch") || has("gatherpf") || has("scatterpf") || has("clflush") || has("clwb") || has("cldemote") ||
+      has("umonitor") || has("monitor"))
     return true; // they access nothing that the program can see
   if (has(".maskload.")) {
     tell_lanes(call, argument(0), call.getType(), argument(1), CILKCHECK_READ);
@@ -101,12 +103,13 @@ bool Teller::tell_x86(IntrinsicInst &call, StringRef name) {
     return true;
   }
   // gather(source, base, indices, mask, scale), scatter(base, mask, indices, values, scale)
-  if ((has(".gather.") || has(".gather3")) && call.arg_size() == 5 && call.getType()->isVectorTy() && argument(1)->getType()->isPointerTy()) {
+  if ((has(".gather.") || has(".gather3")) && call.arg_size() == 5 && call.getType()->isVectorTy() &&
+      argument(1)->getType()->isPointerTy()) {
     tell_indexed(call, argument(1), argument(2), argument(4), argument(3), call.getType(), CILKCHECK_READ);
     return true;
   }
-  if ((has(".scatter.") || has(".scatterdiv") || has(".scattersiv")) && call.arg_size() == 5 && argument(0)->getType()->isPointerTy() &&
-      argument(3)->getType()->isVectorTy()) {
+  if ((has(".scatter.") || has(".scatterdiv") || has(".scattersiv")) && call.arg_size() == 5 &&
+      argument(0)->getType()->isPointerTy() && argument(3)->getType()->isVectorTy()) {
     tell_indexed(call, argument(0), argument(2), argument(4), argument(1), argument(3)->getType(), CILKCHECK_WRITE);
     return true;
   }
@@ -116,16 +119,16 @@ bool Teller::tell_x86(IntrinsicInst &call, StringRef name) {
     int kind;
   };
   static const Plain known[] = {
-      {"sse3.ldu.dq", 0, 16, CILKCHECK_READ},        {"avx.ldu.dq.256", 0, 32, CILKCHECK_READ},
-      {"sse.ldmxcsr", 0, 4, CILKCHECK_READ},         {"sse.stmxcsr", 0, 4, CILKCHECK_WRITE},
-      {"fxsave", 0, 512, CILKCHECK_WRITE},           {"fxsave64", 0, 512, CILKCHECK_WRITE},
-      {"fxrstor", 0, 512, CILKCHECK_READ},           {"fxrstor64", 0, 512, CILKCHECK_READ},
-      {"sse4a.movnt.sd", 0, 8, CILKCHECK_WRITE},     {"sse4a.movnt.ss", 0, 4, CILKCHECK_WRITE},
-      {"directstore32", 0, 4, CILKCHECK_WRITE},      {"directstore64", 0, 8, CILKCHECK_WRITE},
-      {"movdir64b", 1, 64, CILKCHECK_READ},          {"movdir64b", 0, 64, CILKCHECK_WRITE},
-      {"aesenc128kl", 1, 48, CILKCHECK_READ},        {"aesdec128kl", 1, 48, CILKCHECK_READ},
-      {"aesenc256kl", 1, 64, CILKCHECK_READ},        {"aesdec256kl", 1, 64, CILKCHECK_READ},
-      {"mmx.movnt.dq", 0, 8, CILKCHECK_WRITE},       {"sse2.movnt.i", 0, 4, CILKCHECK_WRITE},
+      {"sse3.ldu.dq", 0, 16, CILKCHECK_READ},    {"avx.ldu.dq.256", 0, 32, CILKCHECK_READ},
+      {"sse.ldmxcsr", 0, 4, CILKCHECK_READ},     {"sse.stmxcsr", 0, 4, CILKCHECK_WRITE},
+      {"fxsave", 0, 512, CILKCHECK_WRITE},       {"fxsave64", 0, 512, CILKCHECK_WRITE},
+      {"fxrstor", 0, 512, CILKCHECK_READ},       {"fxrstor64", 0, 512, CILKCHECK_READ},
+      {"sse4a.movnt.sd", 0, 8, CILKCHECK_WRITE}, {"sse4a.movnt.ss", 0, 4, CILKCHECK_WRITE},
+      {"directstore32", 0, 4, CILKCHECK_WRITE},  {"directstore64", 0, 8, CILKCHECK_WRITE},
+      {"movdir64b", 1, 64, CILKCHECK_READ},      {"movdir64b", 0, 64, CILKCHECK_WRITE},
+      {"aesenc128kl", 1, 48, CILKCHECK_READ},    {"aesdec128kl", 1, 48, CILKCHECK_READ},
+      {"aesenc256kl", 1, 64, CILKCHECK_READ},    {"aesdec256kl", 1, 64, CILKCHECK_READ},
+      {"mmx.movnt.dq", 0, 8, CILKCHECK_WRITE},   {"sse2.movnt.i", 0, 4, CILKCHECK_WRITE},
   };
   bool is_known = false;
   for (const Plain &it : known)

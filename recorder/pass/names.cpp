@@ -39,14 +39,16 @@ static DIType *element_of(DICompositeType &array) { return array.getBaseType(); 
 static uint64_t bounds_of(DICompositeType &array) { return array.getElements().size(); }
 static DICompositeType *structure(DIType *type) {
   auto *it = dyn_cast_or_null<DICompositeType>(bare(type));
-  return it && (it->getTag() == dwarf::DW_TAG_structure_type || it->getTag() == dwarf::DW_TAG_class_type) ? it : nullptr;
+  return it && (it->getTag() == dwarf::DW_TAG_structure_type || it->getTag() == dwarf::DW_TAG_class_type) ? it
+                                                                                                          : nullptr;
 }
 // The only member, or base class, where the byte lies.
 static DIDerivedType *member_at(DICompositeType &type, uint64_t offset) {
   DIDerivedType *found = nullptr;
   for (DINode *node : type.getElements()) {
     auto *it = dyn_cast<DIDerivedType>(node);
-    if (!it || it->isStaticMember() || (it->getTag() != dwarf::DW_TAG_member && it->getTag() != dwarf::DW_TAG_inheritance))
+    if (!it || it->isStaticMember() ||
+        (it->getTag() != dwarf::DW_TAG_member && it->getTag() != dwarf::DW_TAG_inheritance))
       continue;
     uint64_t size = it->getSizeInBits() ? it->getSizeInBits() : bytes_of(it->getBaseType()) * 8;
     uint64_t from = it->getOffsetInBits(), to = from + size;
@@ -66,7 +68,8 @@ Names::Names(Function &function) : layout(function.getParent()->getDataLayout())
         variables.insert({memory->stripPointerCasts(), {variable, expression && expression->startsWithDeref()}});
     });
   // an argument in memory: the variable lies where the argument points to, which is kept for the debugger alone
-  for (auto &[holder, told] : SmallVector<std::pair<const Value *, std::pair<DILocalVariable *, bool>>, 8>(variables.begin(), variables.end()))
+  for (auto &[holder, told] :
+       SmallVector<std::pair<const Value *, std::pair<DILocalVariable *, bool>>, 8>(variables.begin(), variables.end()))
     if (told.second)
       for (const User *user : holder->users())
         if (auto *store = dyn_cast<StoreInst>(user); store && store->getPointerOperand() == holder)
@@ -90,7 +93,8 @@ Names::Lvalue Names::member(const Lvalue &of, const DIDerivedType &which) {
   return {in_brackets(of.text) + (of.pointee ? "->" : ".") + which.getName().str(), which.getBaseType(), false};
 }
 
-// The part of `from` that lies `offset` bytes behind its begin, as small as BYTES. One value is the innermost part that holds it.
+// The part of `from` that lies `offset` bytes behind its begin, as small as BYTES. One value is the innermost part that
+// holds it.
 Names::Lvalue Names::walk(Lvalue from, int64_t offset, uint64_t bytes, bool one_value) {
   for (unsigned steps = 0; steps < 16; steps++) {
     int64_t size = bytes_of(from.type);
@@ -145,7 +149,8 @@ Names::Lvalue Names::element(Lvalue base, const GEPOperator &address) const {
       // an array that has become a pointer to its first element
       if (!whole)
         return base.type ? base : index(base, nullptr);
-      base = index({show(base), base.type, false}, step == bytes_of(element_of(*whole)) || bounds_of(*whole) == 1 ? element_of(*whole) : whole);
+      base = index({show(base), base.type, false},
+                   step == bytes_of(element_of(*whole)) || bounds_of(*whole) == 1 ? element_of(*whole) : whole);
     } else
       base = index(base, base.type);
   }
@@ -164,7 +169,9 @@ Names::Lvalue Names::element(Lvalue base, const GEPOperator &address) const {
     type = elements->getElementType();
     auto *whole = array(base.type);
     // one bound of several: the type of what is left is not written in the debug information
-    DIType *left = whole && bounds_of(*whole) == 1 ? element_of(*whole) : whole && !isa<ArrayType>(type) ? element_of(*whole) : base.type;
+    DIType *left = whole && bounds_of(*whole) == 1  ? element_of(*whole)
+                   : whole && !isa<ArrayType>(type) ? element_of(*whole)
+                                                    : base.type;
     base = index(base.pointee ? Lvalue{show(base), base.type, false} : base, left);
   }
   return base;
@@ -215,7 +222,8 @@ Names::Lvalue Names::lvalue(Value *pointer, unsigned depth) const {
     if (auto it = variables.find(load->getPointerOperand()); it != variables.end() && it->second.second)
       return {it->second.first->getName().str(), it->second.first->getType(), false};
     Lvalue holder = lvalue(load->getPointerOperand(), depth + 1);
-    if (auto *held = !holder && isa<AllocaInst>(load->getPointerOperand()) ? only_value(load->getPointerOperand()) : nullptr)
+    if (auto *held =
+            !holder && isa<AllocaInst>(load->getPointerOperand()) ? only_value(load->getPointerOperand()) : nullptr)
       return lvalue(held, depth + 1);
     if (!holder)
       return holder;
@@ -223,7 +231,8 @@ Names::Lvalue Names::lvalue(Value *pointer, unsigned depth) const {
     auto *type = dyn_cast_or_null<DIDerivedType>(bare(holder.type));
     if (!type)
       return {show(holder), nullptr, true};
-    bool reference = type->getTag() == dwarf::DW_TAG_reference_type || type->getTag() == dwarf::DW_TAG_rvalue_reference_type;
+    bool reference =
+        type->getTag() == dwarf::DW_TAG_reference_type || type->getTag() == dwarf::DW_TAG_rvalue_reference_type;
     return {show(holder), type->getBaseType(), !reference};
   }
   return {};

@@ -52,7 +52,8 @@ using Row = std::vector<Field>;
 class Rows {
 public:
   Rows(Module &module, const Types &types) : module(module), types(types) {}
-  // A table in `section`. A named one is called by the hash of its contents and may be merged with its like of other objects.
+  // A table in `section`. A named one is called by the hash of its contents and may be merged with its like of other
+  // objects.
   GlobalVariable *table(StringRef section, const std::vector<Row> &rows, bool named);
   // Keeps a table that nothing refers to.
   void keep(GlobalVariable *table) { kept.push_back(table); }
@@ -131,7 +132,8 @@ private:
 
 // ---- prepare.cpp ----
 
-// What is false once accesses are told: attributes that say what a function does to memory, and bodies that only the inliner sees.
+// What is false once accesses are told: attributes that say what a function does to memory, and bodies that only the
+// inliner sees.
 void forget_promises(Recording &recording);
 // Calls of libc's functions go to the runtime's wrappers. False: the list could not be read, and clang has been told.
 bool redirect_library(Recording &recording);
@@ -237,7 +239,8 @@ private:
   void tell_intrinsic(IntrinsicInst &call);
   bool tell_x86(IntrinsicInst &call, StringRef name);
   void tell_lanes(IntrinsicInst &call, Value *pointer, Type *vector, Value *mask, int kind);
-  void tell_indexed(IntrinsicInst &call, Value *base, Value *indices, Value *scale, Value *mask, Type *vector, int kind);
+  void tell_indexed(IntrinsicInst &call, Value *base, Value *indices, Value *scale, Value *mask, Type *vector,
+                    int kind);
   void tell_packed(IntrinsicInst &call, Value *pointer, Type *vector, Value *mask, int kind);
   Value *lane_bit(IRBuilder<> &builder, Value *mask, unsigned lane);
   bool touches_shared(const IntrinsicInst &call);

@@ -1,5 +1,6 @@
-// The pass of cilkcheck-cc: tells the runtime of each access that another strand could share (runtime/abi.h), with its site (rows.h).
-// It runs at the begin of the pipeline, so nothing is told that the program does not do, and nothing is optimized away before it is told.
+// The pass of cilkcheck-cc: tells the runtime of each access that another strand could share (runtime/abi.h), with its
+// site (rows.h). It runs at the begin of the pipeline, so nothing is told that the program does not do, and nothing is
+// optimized away before it is told.
 #include "pass.h"
 #include "llvm/Passes/PassBuilder.h"
 #include "llvm/Passes/PassPlugin.h"
@@ -53,6 +54,7 @@ private:
 
 extern "C" LLVM_ATTRIBUTE_WEAK PassPluginLibraryInfo llvmGetPassPluginInfo() {
   return {LLVM_PLUGIN_API_VERSION, "cilkcheck", "1", [](PassBuilder &builder) {
-            builder.registerPipelineStartEPCallback([](ModulePassManager &passes, auto) { passes.addPass(RecordAccesses()); });
+            builder.registerPipelineStartEPCallback(
+                [](ModulePassManager &passes, auto) { passes.addPass(RecordAccesses()); });
           }};
 }

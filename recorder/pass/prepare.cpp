@@ -13,9 +13,12 @@
 namespace cilkcheck {
 
 Recording::Recording(Module &module)
-    : module(module), layout(module.getDataLayout()), types(module.getContext()), rows(module, types), files(module), hooks(module, types) {}
+    : module(module), layout(module.getDataLayout()), types(module.getContext()), rows(module, types), files(module),
+      hooks(module, types) {}
 
-static bool is_own(const Function &function) { return function.isIntrinsic() || begins_with(function.getName(), "__cilkcheck_"); }
+static bool is_own(const Function &function) {
+  return function.isIntrinsic() || begins_with(function.getName(), "__cilkcheck_");
+}
 
 template <class T> static void forget_arguments(T &of, unsigned count) {
   for (unsigned i = 0; i < count; i++)
@@ -99,7 +102,8 @@ bool redirect_library(Recording &recording) {
 static std::set<const Function *> annotated(const Module &module, StringRef wanted) {
   std::set<const Function *> found;
   auto *annotations = module.getNamedGlobal("llvm.global.annotations");
-  auto *rows = annotations && annotations->hasInitializer() ? dyn_cast<ConstantArray>(annotations->getInitializer()) : nullptr;
+  auto *rows =
+      annotations && annotations->hasInitializer() ? dyn_cast<ConstantArray>(annotations->getInitializer()) : nullptr;
   for (unsigned i = 0; rows && i < rows->getNumOperands(); i++) {
     auto *row = dyn_cast<ConstantStruct>(rows->getOperand(i));
     if (!row || row->getNumOperands() < 2)
@@ -113,10 +117,11 @@ static std::set<const Function *> annotated(const Module &module, StringRef want
   return found;
 }
 
-// The headers of the processor's intrinsics say `always_inline` and `nodebug`: their accesses are those of the line that calls them.
+// The headers of the processor's intrinsics say `always_inline` and `nodebug`: their accesses are those of the line
+// that calls them.
 static bool has_no_place(const Function &function) {
-  return !function.isDeclaration() && function.hasFnAttribute(Attribute::AlwaysInline) && !function.getSubprogram() && !is_own(function) &&
-         !function.isInterposable() && !function.hasFnAttribute(Attribute::Naked);
+  return !function.isDeclaration() && function.hasFnAttribute(Attribute::AlwaysInline) && !function.getSubprogram() &&
+         !is_own(function) && !function.isInterposable() && !function.hasFnAttribute(Attribute::Naked);
 }
 
 void inline_placeless(Recording &recording) {
@@ -134,7 +139,8 @@ void inline_placeless(Recording &recording) {
     for (Function *function : placeless) {
       SmallVector<CallBase *, 16> calls;
       for (User *user : function->users())
-        if (auto *call = dyn_cast<CallBase>(user); call && call->getCalledFunction() == function && call->getFunction() != function && !call->isNoInline())
+        if (auto *call = dyn_cast<CallBase>(user);
+            call && call->getCalledFunction() == function && call->getFunction() != function && !call->isNoInline())
           calls.push_back(call);
       for (CallBase *call : calls) {
         Function &caller = *call->getFunction();

@@ -46,7 +46,9 @@ public:
   }
 
 private:
-  static bool is_pure(const Instruction &it) { return isa<GetElementPtrInst>(it) || isa<CastInst>(it) || isa<BinaryOperator>(it); }
+  static bool is_pure(const Instruction &it) {
+    return isa<GetElementPtrInst>(it) || isa<CastInst>(it) || isa<BinaryOperator>(it);
+  }
   unsigned next = 1;
   DenseMap<Value *, unsigned> numbers;
   std::map<std::vector<uintptr_t>, unsigned> computed;
@@ -84,7 +86,8 @@ static void forget_repeated(Recording &recording, Function &function) {
         }
       }
       if (call->getCalledOperand() == recording.hooks.access.getCallee()) {
-        auto *size = dyn_cast<ConstantInt>(call->getArgOperand(1)), *kind = dyn_cast<ConstantInt>(call->getArgOperand(2));
+        auto *size = dyn_cast<ConstantInt>(call->getArgOperand(1)),
+             *kind = dyn_cast<ConstantInt>(call->getArgOperand(2));
         if (!size || !kind || (kind->getZExtValue() != CILKCHECK_READ && kind->getZExtValue() != CILKCHECK_WRITE))
           continue;
         bytes = size->getZExtValue();
@@ -102,7 +105,8 @@ static void forget_repeated(Recording &recording, Function &function) {
 }
 
 void promote(Recording &recording, Function &function, FunctionAnalysisManager &analyses) {
-  // Locals of a coroutine lie in its frame on the heap, those of a function that setjmp returns to twice are its author's business.
+  // Locals of a coroutine lie in its frame on the heap, those of a function that setjmp returns to twice are its
+  // author's business.
   if (!recording.coroutines.count(&function) && !function.callsFunctionThatReturnsTwice())
     for (unsigned rounds = 0; rounds < 3; rounds++) {
       analyses.invalidate(function, PreservedAnalyses::none());

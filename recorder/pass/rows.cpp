@@ -7,8 +7,8 @@
 namespace cilkcheck {
 
 Types::Types(LLVMContext &context)
-    : none(Type::getVoidTy(context)), i8(Type::getInt8Ty(context)), i32(Type::getInt32Ty(context)), i64(Type::getInt64Ty(context)),
-      pointer(PointerType::getUnqual(i8)) {}
+    : none(Type::getVoidTy(context)), i8(Type::getInt8Ty(context)), i32(Type::getInt32Ty(context)),
+      i64(Type::getInt64Ty(context)), pointer(PointerType::getUnqual(i8)) {}
 
 bool may_be_discarded(const Function &function) {
   return function.hasComdat() || function.hasLinkOnceLinkage() || function.hasWeakLinkage();
@@ -18,7 +18,8 @@ Constant *Rows::text(StringRef text) {
   Constant *&it = texts[text];
   if (!it) {
     auto *data = ConstantDataArray::getString(module.getContext(), text);
-    auto *global = new GlobalVariable(module, data->getType(), true, GlobalValue::PrivateLinkage, data, "cilkcheck.text");
+    auto *global =
+        new GlobalVariable(module, data->getType(), true, GlobalValue::PrivateLinkage, data, "cilkcheck.text");
     global->setUnnamedAddr(GlobalValue::UnnamedAddr::Global); // so the linker merges equal ones
     global->setAlignment(Align(1));
     it = global;
@@ -53,7 +54,9 @@ static std::string hash_of(StringRef section, const std::vector<Row> &rows) {
   add(section);
   for (const Row &row : rows)
     for (const Field &field : row)
-      add(field.kind == Field::Text ? field.text : field.target ? field.target->getName().str() : std::to_string(field.number));
+      add(field.kind == Field::Text ? field.text
+          : field.target            ? field.target->getName().str()
+                                    : std::to_string(field.number));
   MD5::MD5Result result;
   hash.final(result);
   return std::string(result.digest());
@@ -73,7 +76,8 @@ GlobalVariable *Rows::table(StringRef section, const std::vector<Row> &rows, boo
   for (unsigned r = 0; r < rows.size(); r++) {
     std::vector<Constant *> row;
     for (unsigned f = 0; f < rows[r].size(); f++) {
-      Constant *indices[] = {ConstantInt::get(types.i64, 0), ConstantInt::get(types.i64, r), ConstantInt::get(types.i32, f)};
+      Constant *indices[] = {ConstantInt::get(types.i64, 0), ConstantInt::get(types.i64, r),
+                             ConstantInt::get(types.i32, f)};
       row.push_back(field(rows[r][f], ConstantExpr::getInBoundsGetElementPtr(type, table, indices)));
     }
     values.push_back(ConstantStruct::get(row_type, row));

@@ -25,7 +25,8 @@ Constant *Sites::at(const DIFile *file, unsigned line, unsigned column, StringRe
   if (is_new)
     rows.push_back({Field::of_text(source ? source->name : module.getSourceFileName()), Field::of_text(function_text),
                     Field::of_text(name), Field::of_text(source ? source->code(line) : ""), Field::of_number(line),
-                    Field::of_number(column), Field::of_number(!source || source->system ? CILKCHECK_SYSTEM : 0), Field::of_number(0)});
+                    Field::of_number(column), Field::of_number(!source || source->system ? CILKCHECK_SYSTEM : 0),
+                    Field::of_number(0)});
   if (!stand_in)
     stand_in = new GlobalVariable(module, types.i8, false, GlobalValue::ExternalLinkage, nullptr, "cilkcheck.sites");
   Constant *offset[] = {ConstantInt::get(types.i64, it->second * sizeof(cilkcheck_site))};
@@ -51,12 +52,40 @@ static std::string callee_name(const CallBase &call) {
   return callee ? function_name(*callee) : "";
 }
 
+// In a function of the system's headers, or of no known file, the place stays that of the call which led there,
+// whatever its callees make of it.
+static void keep_place(Recording &recording, Function &function, ArrayRef<CallBase *> calls) {
+  Instruction *entry = &*function.getEntryBlock().getFirstInsertionPt();
+  while (isa<AllocaInst>(entry))
+    entry = entry->getNextNode();
+  Value *kept = IRBuilder<>(entry).CreateLoad(recording.types.pointer, recording.hooks.place, "cilkcheck.place");
+  auto put_back = [&](Instruction *before) { IRBuilder<>(before).CreateStore(kept, recording.hooks.place); };
+  for (BasicBlock &block : function)
+    if (block.isLandingPad())
+      put_back(&*block.getFirstInsertionPt());
+  for (CallBase *call : calls)
+    if (auto *invoke = dyn_cast<InvokeInst>(call)) {
+      // a block of this edge's own
+      BasicBlock *normal = invoke->getNormalDest(),
+                 *block = BasicBlock::Create(call->getContext(), "cilkcheck.returned", &function, normal);
+      put_back(BranchInst::Create(normal, block));
+      normal->replacePhiUsesWith(invoke->getParent(), block);
+      invoke->setNormalDest(block);
+    } else if (!call->isTerminator() && !call->isMustTailCall())
+      put_back(call->getNextNode());
+}
+
 void tell_calls(Recording &recording, Function &function, Sites &sites) {
   Constant *none = Constant::getNullValue(recording.types.pointer);
   std::vector<CallBase *> calls;
   for (Instruction &it : instructions(function))
-    if (auto *call = dyn_cast<CallBase>(&it); call && !isa<IntrinsicInst>(call) && !call->isInlineAsm() && !recording.hooks.tells(call))
+    if (auto *call = dyn_cast<CallBase>(&it);
+        call && !isa<IntrinsicInst>(call) && !call->isInlineAsm() && !recording.hooks.tells(call))
       calls.push_back(call);
+  auto *program = function.getSubprogram();
+  SourceFile *source = program ? recording.files.find(program->getFile()) : nullptr;
+  bool is_placed = source && !source->system;
+  std::vector<CallBase *> others;
   for (CallBase *call : calls) {
     call->addFnAttr(Attribute::NoMerge);
     call->removeFnAttr(Attribute::AlwaysInline); // `flatten` goes before a hooked function's noinline
@@ -68,9 +97,16 @@ void tell_calls(Recording &recording, Function &function, Sites &sites) {
       if (callee != recording.hooks.leave.getCallee()) // a return is the place of the sync before it
         continue;
     }
-    auto *told = new StoreInst(sites.of(*call, callee_name(*call)), recording.hooks.place, false, recording.layout.getABITypeAlign(recording.types.pointer), call);
+    if (!is_placed) {
+      others.push_back(call);
+      continue;
+    }
+    auto *told = new StoreInst(sites.of(*call, callee_name(*call)), recording.hooks.place, false,
+                               recording.layout.getABITypeAlign(recording.types.pointer), call);
     told->setDebugLoc(call->getDebugLoc());
   }
+  if (!others.empty())
+    keep_place(recording, function, others);
 }
 
 void Recording::note(const Function *of, StringRef file, unsigned line, StringRef what) {

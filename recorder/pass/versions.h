@@ -18,7 +18,9 @@
 
 namespace cilkcheck {
 
-inline bool begins_with(llvm::StringRef text, llvm::StringRef prefix) { return text.take_front(prefix.size()) == prefix; }
+inline bool begins_with(llvm::StringRef text, llvm::StringRef prefix) {
+  return text.take_front(prefix.size()) == prefix;
+}
 inline bool ends_with(llvm::StringRef text, llvm::StringRef suffix) { return text.take_back(suffix.size()) == suffix; }
 
 inline llvm::SROAPass make_sroa() {
@@ -34,8 +36,9 @@ template <class T> void forget_memory_attributes(T &of) {
 #if LLVM_VERSION_MAJOR >= 16
   of.removeFnAttr(llvm::Attribute::Memory);
 #else
-  for (auto it : {llvm::Attribute::ReadNone, llvm::Attribute::ReadOnly, llvm::Attribute::WriteOnly, llvm::Attribute::ArgMemOnly,
-                  llvm::Attribute::InaccessibleMemOnly, llvm::Attribute::InaccessibleMemOrArgMemOnly})
+  for (auto it :
+       {llvm::Attribute::ReadNone, llvm::Attribute::ReadOnly, llvm::Attribute::WriteOnly, llvm::Attribute::ArgMemOnly,
+        llvm::Attribute::InaccessibleMemOnly, llvm::Attribute::InaccessibleMemOrArgMemOnly})
     of.removeFnAttr(it);
 #endif
 }
@@ -43,8 +46,8 @@ template <class T> void forget_memory_attributes(T &of) {
 // What is marked so touches no memory that the program can name: its own alone.
 inline void set_only_own_memory(llvm::Function &function) { function.setOnlyAccessesInaccessibleMemory(); }
 
-// Calls `declared(address, variable, expression)` for each debug record that says where a variable lies. From 17 on clang -O1 says it by
-// dbg.assign, from 19 on by records beside the instructions.
+// Calls `declared(address, variable, expression)` for each debug record that says where a variable lies. From 17 on
+// clang -O1 says it by dbg.assign, from 19 on by records beside the instructions.
 template <class F> void each_declaration(llvm::Instruction &instruction, F declared) {
 #if LLVM_VERSION_MAJOR >= 19
   for (llvm::DbgVariableRecord &it : llvm::filterDbgVars(instruction.getDbgRecordRange())) {

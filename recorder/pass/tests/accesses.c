@@ -61,6 +61,8 @@ void global_member(void) { g_node.in.re = 1; }                          /* told:
 void first_member(void) { g_node.value = 1; }                           /* told: write4 g_node.value */
 void united(union both *u) { u->i = 1; }                                /* told: write4 *u */
 int constant(int i) { return table[i] + g_const + "abc"[i]; }
+extern const int declared;
+int maybe_no_constant(void) { return declared; }                        /* told: read4 declared */
 
 /* bit-fields: their storage unit */
 void bit_write(struct bits *p) { p->b = 3; }                            /* told: read1 *p; write1 *p */

@@ -5,15 +5,17 @@
 
 A comment stands on the line of what it speaks of:
 
-    /* told: read4 g_x; write4 p->y */   these accesses, in this order: read, write, load (atomic), bump (an atomic store or update) or
-                                         either (a compare-exchange), the bytes (`?`: known when it runs) and the name, if it has one
+    /* told: read4 g_x; write4 p->y */   these accesses, in this order: read, write, load (atomic), bump (an atomic
+                                         store or update) or either (a compare-exchange), the bytes (`?`: known when it runs)
+                                         and the name, if it has one
     /* frame: x 4, y 16 */               a hooked function, with these locals; `frame: none`: hooked, with no local
     /* dynamic: v */                     an array whose length only the run knows
     /* object: 4 */                      a global or static object of so many bytes
     /* note: inline assembly */          what is not seen
     /* told nowhere: write4 g_x */       told, without a line
 
-A line without one tells nothing, leaves no note, and is of no hooked function. `at: O0` or `at: O2` before a comment limits it to one level.
+A line without one tells nothing, leaves no note, and is of no hooked function. `at: O0` or `at: O2` before a comment
+limits it to one level.
 """
 import argparse
 import os
@@ -26,7 +28,8 @@ from pathlib import Path
 HERE = Path(__file__).resolve().parent
 SIZED = (1, 2, 4, 8, 16)
 KINDS = {"0": "read", "1": "load", "2": "bump", "3": "write"}
-COMMENT = re.compile(r"(?:at: (O\d) )?\b(told nowhere|told|frame|dynamic|object|note): ([^*]*(?:\*(?!/)[^*]*)*?)\s*(?=$|\*/|\bat: O\d)")
+COMMENT = re.compile(r"(?:at: (O\d) )?\b(told nowhere|told|frame|dynamic|object|note): "
+                     r"([^*]*(?:\*(?!/)[^*]*)*?)\s*(?=$|\*/|\bat: O\d)")
 
 
 def split(text):
@@ -51,7 +54,8 @@ class Module:
             if m := re.match(r'@(cilkcheck\.text[.\d]*) = .* c"(.*)\\00"', line):
                 self.texts[m[1]] = re.sub(r"\\([0-9A-F]{2})", lambda it: chr(int(it[1], 16)), m[2])
         for line in lines:
-            if m := re.match(r'@(\w+[.\d]*) = .*?\bconstant \[\d+ x (\{.*?\})\] \[(.*)\], section "cilkcheck_(\w+)"', line):
+            if m := re.match(r'@(\w+[.\d]*) = .*?\bconstant \[\d+ x (\{.*?\})\] \[(.*)\], section "cilkcheck_(\w+)"',
+                             line):
                 self.tables[m[1]] = [self.row(row[len(m[2]):].strip()) for row in split(m[3])]
                 if m[4] == "notes":
                     self.notes += [(row[2], row[1]) for row in self.tables[m[1]]]
@@ -61,7 +65,7 @@ class Module:
         for line in lines:
             if m := re.match(r'define .*?@"?([\w.$]+)"?\(', line):
                 function = m[1]
-            elif m := re.search(r"(?:call|invoke) void @__cilkcheck_(read|write|access|dynamic|enter)(\d*)\((.*)\)", line):
+            elif m := re.search(r"call void @__cilkcheck_(read|write|access|dynamic|enter)(\d*)\((.*)\)", line):
                 self.hook(function, m[1], m[2], split(m[3]))
 
     def row(self, text):
@@ -120,6 +124,11 @@ def expected(path, level):
     return found
 
 
+def rows_of(text):
+    """The locals that a comment lists."""
+    return [] if text == "none" else [(it.split()[0], int(it.split()[1])) for it in text.split(",")]
+
+
 def is_of(home, function):
     """Whether HOME is the name in the source of a function of the module."""
     if home == "operator()":
@@ -136,7 +145,8 @@ def compare(path, level, module):
         for line in sorted(set(lines) | set(seen)):
             if line in lines and form(lines[line]) == seen.get(line):
                 continue
-            wrong.append(f"{path.name}:{line}: -{level}: {kind}: {seen.get(line, 'nothing')}, not {lines.get(line, 'nothing')}")
+            told = seen.get(line, "nothing"), lines.get(line, "nothing")
+            wrong.append(f"{path.name}:{line}: -{level}: {kind}: {told[0]}, not {told[1]}")
         return len(lines)
 
     told, frames, dynamics, notes, objects = {}, {}, {}, {}, {}
@@ -154,7 +164,7 @@ def compare(path, level, module):
             objects.setdefault(line, []).append(bytes_)
     listed = lambda text: [it.strip() for it in text.split(";")]
     count = check("told", told, listed)
-    count += check("frame", frames, lambda text: [] if text == "none" else [(it.split()[0], int(it.split()[1])) for it in text.split(",")])
+    count += check("frame", frames, rows_of)
     count += check("dynamic", dynamics, listed)
     count += check("note", notes, listed)
     count += check("object", objects, lambda text: [int(it) for it in text.split(";")])
@@ -181,15 +191,16 @@ def main():
             flags = re.findall(r"flags: (.*?) *\*/", first)
             for level in ("O0", "O2"):
                 out = Path(folder) / "out.ll"
-                done = subprocess.run([options.clang, f"-{level}", "-g", "-w", "-fno-builtin", f"-fpass-plugin={plugin}", *(flags[0].split() if flags else []),
-                                       "-S", "-emit-llvm", str(path), "-o", str(out)], env=environment, capture_output=True, text=True)
+                command = [options.clang, f"-{level}", "-g", "-w", "-fno-builtin", f"-fpass-plugin={plugin}",
+                           *(flags[0].split() if flags else []), "-S", "-emit-llvm", str(path), "-o", str(out)]
+                done = subprocess.run(command, env=environment, capture_output=True, text=True)
                 if done.returncode:
                     wrong.append(f"{path.name}: -{level}: {done.stderr}")
                     continue
                 module = Module(out.read_text())
                 if options.show:
                     for line, what, home, function in module.told:
-                        print(f"{path.name}:{line}: {level} {function}: {what}" + ("" if is_of(home, function) else f" (of {home})"))
+                        print(f"{path.name}:{line}: {level} {function}: {what} (of {home})")
                     for it in module.frames:
                         print("frame", it)
                 bad, checks = compare(path, level, module)
