@@ -214,10 +214,12 @@ class Pass:
             for level in ("-O0", "-O2"):
                 program = folder / "canary"
                 clang = [self.compiler.command, "-w", level, *flags(plugin)]
-                for words in ([*clang, PASS / "canary.c", "-o", program], [program]):
-                    status, said = self.tells(words, folder / "said")
-                    if status:
-                        raise Failed(REFUSED, f"{name} does not tell each access with the pass at {level}: {said}")
+                made, said = self.tells([*clang, PASS / "canary.c", "-o", program], folder / "said")
+                if made:
+                    raise Failed(REFUSED, f"{name} does not compile the canary of the pass at {level}: {said}")
+                missed, said = self.tells([program], folder / "said")
+                if missed:
+                    raise Failed(REFUSED, f"{name} does not tell each access with the pass at {level}: {said}")
         except subprocess.TimeoutExpired:
             raise Failed(REFUSED, f"{name} does not compile and run the canary of the pass in 120 s") from None
 
