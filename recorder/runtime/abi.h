@@ -10,8 +10,9 @@ typedef const struct cilkcheck_site *site_row;
 
 /* Each recorded object refers to it, so that one of another version of the hooks does not link. */
 extern const char __cilkcheck_version_1;
-/* The call that the program is about to make, or made last. The pass sets it before each call that is no intrinsic, and before each leave:
-   it is the place of what a library's function does, and of the caller of the function that is entered. */
+/* The call that the program is about to make, or made last: the place of what a library's function does. The pass sets it before each call that
+   is no intrinsic, and before each leave. A function in a header of the system's, or of no known file, leaves it as it was at its entry: so it is
+   the place of what such functions do, too. */
 extern site_row __cilkcheck_place;
 
 /* ---- accesses ---- */

@@ -39,12 +39,7 @@ void places_begin(void) {
 
 static bool is_in_header(uintptr_t place) { return ((row)place)->flags & CILKCHECK_SYSTEM; }
 uintptr_t place_in_source(uintptr_t place) {
-  if (!place || !is_in_header(place)) return place;
-  for (uint32_t above = 0, depth = stack_depth(); above < depth; above++) {
-    uintptr_t caller = stack_caller(above);
-    if (caller && !is_in_header(caller)) return caller;
-  }
-  return place;
+  return place && is_in_header(place) && PLACE && !is_in_header(PLACE) ? PLACE : place;
 }
 
 static uint32_t hash_of(row at) {

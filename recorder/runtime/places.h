@@ -3,7 +3,8 @@
    A place is the address of a row of the table of sites: an access, a call, or a mark. A site is what is told as one place: a line of a
    function. It gets its number when the first of its rows is met. Site 0 is no place.
 
-   A place in a header of the system's stands for the call in the program's own source that led there, on the running stack.
+   A place in a header of the system's, or in no known file, stands for the call in the program's own source that led there: PLACE, which
+   functions there leave as it is.
 
    Invariants: `sites` has an entry for each row of the table, 0 where the row was not met yet or stands in such a header. Two rows have one
    site exactly where their files, lines and functions are the same. */
@@ -25,7 +26,7 @@ static inline uint32_t place_site(uintptr_t place) {
   }
   return place_new_site(place);
 }
-/* The place itself; where it is in a header of the system's, that of the innermost call that is not, if there is one. */
+/* The place itself; where it is in such a header, that of the call that led there, if there is one. */
 uintptr_t place_in_source(uintptr_t place);
 /* The sites there are: numbers from 1 to this. */
 uint32_t place_sites(void);

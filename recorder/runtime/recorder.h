@@ -73,9 +73,8 @@ void stack_use(struct stack stack);
 /* A stack over [low, low + span) for a thread of OpenMP, with no frames of its own behind those of the maker. */
 struct stack stack_new(uintptr_t low, size_t span);
 void stack_free(struct stack stack);
-/* How many functions run, and where the one `above` calls below the innermost was called. */
+/* How many functions run. */
 uint32_t stack_depth(void);
-uintptr_t stack_caller(uint32_t above);
 
 /* ---- scopes, strands, and the log (scopes.c) ---- */
 

@@ -43,7 +43,6 @@ void stack_free(struct stack stack) {
   unreserve(stack.dynamics, sizeof *stack.dynamics * MOST_DYNAMICS);
 }
 uint32_t stack_depth(void) { return stack_now.depth; }
-uintptr_t stack_caller(uint32_t above) { return stack_now.frames[stack_now.depth - 1 - above].caller; }
 
 static inline void end_below(uintptr_t top) {
   if (stack_now.touched >= top) return;

@@ -1,6 +1,5 @@
-/* The frames of the running stack, kept by the hooks at entry and exit of those functions that need them: whose locals are shared, that have
-   marks, or whose code stands in a header of the system's and tells accesses. Another function's locals are in no access that is told, so the
-   innermost of these functions stands for those above it.
+/* The frames of the running stack, kept by the hooks at entry and exit of those functions that need them: whose locals are shared, or that
+   have marks. Another function's locals are in no access that is told, so the innermost of these functions stands for those above it.
 
    Invariants: frames[first .. depth) are the running functions of this stack, outermost first, their tops descending; those before are
    the maker's of a thread. What was told of the stack's span below the innermost frame's top belongs to it; where a function begins or
