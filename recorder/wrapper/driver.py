@@ -76,16 +76,16 @@ def compile_each(session, commands, compiler, plugin, cxx):
 
 def make_headers(session, commands, compiler, cxx):
     """A precompiled header is of the serial elision, for clang's own messages. What is recorded reads the header."""
-    from .sources import ELISION
+    from .sources import elision
     openmp = ["-fopenmp"] if commands.openmp else []
     stage = [commands.mode] if commands.mode in ("-c", "-S") else []
-    session.run([*compiler.driver(cxx), *openmp, *ELISION, *stage, *passed_on(commands)])
+    session.run([*compiler.driver(cxx), *openmp, *elision(), *stage, *passed_on(commands)])
 
 
 def build(commands, cxx):
     """Does what the command line asks, in the mode that it names."""
     from .compiler import Pass, found
-    from .sources import ELISION, OPENMP_UNREAD, OURS
+    from .sources import OPENMP_UNREAD, OURS, elision
     compiler = found()
     files, mode = commands.files(), commands.mode
     is_in_error = mode != "preprocess" and any(it.name == "-" and not it.language for it in files)
@@ -96,7 +96,7 @@ def build(commands, cxx):
         run_clang(commands, compiler, cxx, OURS)
     if mode == "syntax":
         compiler.supported()
-        run_clang(commands, compiler, cxx, [*([] if commands.openmp else OPENMP_UNREAD), *ELISION])
+        run_clang(commands, compiler, cxx, [*([] if commands.openmp else OPENMP_UNREAD), *elision()])
     with Session() as session:
         compiler, plugin = Pass(compiler, session).find()
         if any(it.is_header for it in files):

@@ -3,16 +3,13 @@ import os
 import re
 import subprocess
 import sys
-
-from rewriter import ELISION as KEYWORDS
+from pathlib import Path
 
 from .compiler import RECORDER, REFUSED, environment, flags
 from .processes import Failed
 
 INCLUDE = RECORDER / "include"
-# a recorded program sees both, its serial elision the first two
 OURS = ["-D__CILKCHECK__=1", "-isystem", str(INCLUDE)]
-ELISION = [*OURS, "-D__CILKCHECK_ELISION__=1", *KEYWORDS]
 # a #pragma omp that nobody reads is worth a warning, and no error
 OPENMP_UNREAD = ["-Wsource-uses-openmp", "-Wno-error=source-uses-openmp"]
 # what is told of the rewritten text is one line
@@ -25,7 +22,13 @@ MESSAGE = re.compile(r"^(?P<place>[^\n:]+:\d+)(?::\d+)*: (?:fatal )?error: (?P<w
 INTERNAL = re.compile(r"cilkcheck|__cxx|\.omp|\.ii?\b")
 
 
-def spool(session, source):
+def elision():
+    """What makes clang take a program as its serial elision. (The rewriter is imported while clang preprocesses.)"""
+    from rewriter import ELISION
+    return [*OURS, "-D__CILKCHECK_ELISION__=1", *ELISION]
+
+
+def spool(source):
     """The source as bytes, where it can be read only once: standard input, a pipe, a device."""
     if source.name == "-":
         return sys.stdin.buffer.read()
@@ -44,7 +47,7 @@ class Source:
         self.driver = compiler.driver(cxx)
         self.openmp = ["-fopenmp"] if commands.openmp else []
         self.is_cxx = source.is_cxx
-        self.text = spool(session, source)
+        self.text = spool(source)
 
     def input(self, language=None):
         """The arguments that name the source."""
@@ -69,21 +72,23 @@ class Source:
         # (only what is preprocessed has its macros replaced)
         language = {"cpp-output": "c", "c++-cpp-output": "c++"}[self.source.language] if is_preprocessed else None
         undefined = ["-undef"] if is_preprocessed else []
-        words = [*unread, *self.commands.for_syntax(), *self.openmp, *ELISION, *undefined, "-fsyntax-only"]
+        words = [*unread, *self.commands.for_syntax(), *self.openmp, *elision(), *undefined, "-fsyntax-only"]
         return self.start([*self.driver, *words, *self.input(language)])
 
-    def preprocessed(self):
-        """The text behind the preprocessor, or None with its status where there is none."""
+    def preprocessing(self):
+        """The preprocessor, where the text is not behind it already."""
         if "cpp-output" in self.source.language:
-            if self.text is not None:
-                return self.text
+            return None
+        words = [*self.driver, "-w", *self.commands.for_preprocessing(), *self.openmp, *OURS, "-U_FORTIFY_SOURCE", "-E"]
+        return self.start([*words, *self.input()], stdout=subprocess.PIPE, stderr=subprocess.DEVNULL)
+
+    def preprocessed(self, child):
+        """The text behind the preprocessor, or None where there is none."""
+        if child is None:
             try:
-                with open(self.source.name, "rb") as file:
-                    return file.read()
+                return self.text if self.text is not None else Path(self.source.name).read_bytes()
             except OSError:
                 return None
-        words = [*self.driver, "-w", *self.commands.for_preprocessing(), *self.openmp, *OURS, "-U_FORTIFY_SOURCE", "-E"]
-        child = self.start([*words, *self.input()], stdout=subprocess.PIPE, stderr=subprocess.DEVNULL)
         text = child.stdout.read()
         child.stdout.close()
         return None if child.wait() else text
@@ -105,11 +110,12 @@ class Source:
 
     def compile(self, stage, target):
         """Compiles to the target. What clang has to say comes first; where it has errors, nothing else is said."""
-        from rewriter import Refused
+        reader = self.preprocessing()
         speaker = self.speaks()
+        from rewriter import Refused
         fault, child = None, None
         try:
-            text = self.preprocessed()
+            text = self.preprocessed(reader)
             if text is not None:
                 child = self.compiling(self.rewritten(text), stage, target)
         except Refused as it:
