@@ -40,6 +40,7 @@ constexpr int REFUSED = 70;
 
 // What the rewriter tells of a statement (rewriter/spawns.py): what the language may call behind the spawned call, beside destructors.
 enum class Form { nothing, assigned, bound, unclear };
+constexpr unsigned ASSIGNS_INSIDE = 8;                      // with a form: the call's own text assigns to variables
 constexpr char NAMELESS[] = "operator()";                   // an object is called, or a pointer
 
 struct MarkName { const char *mark, *call; };
@@ -214,7 +215,9 @@ public:
     StringRef text;
     if (!getConstantStringInfo(mark.getArgOperand(1), text)) refuse(mark, "a spawn without a name");
     name = text.str();
-    form = static_cast<Form>(cast<ConstantInt>(mark.getArgOperand(2))->getZExtValue());
+    uint64_t told = cast<ConstantInt>(mark.getArgOperand(2))->getZExtValue();
+    form = static_cast<Form>(told & ~uint64_t{ASSIGNS_INSIDE});
+    assigns_inside = told & ASSIGNS_INSIDE;
     if (mark.arg_size() > 3 && !isa<ConstantPointerNull>(mark.getArgOperand(3))) place = mark.getArgOperand(3);
   }
 
@@ -329,7 +332,7 @@ private:
     for (unsigned i = 0; i < call.arg_size(); i++) {
       if (!call.isByValArgument(i)) continue;
       auto *local = dyn_cast<AllocaInst>(call.getArgOperand(i)->stripPointerCasts());
-      if (local && is_temporary(*local)) continue;
+      if (local && is_own(*local)) continue;
       Type *type = call.getParamByValType(i);
       MaybeAlign align = call.getParamAlign(i);
       IRBuilder<> entry(&*call.getFunction()->getEntryBlock().getFirstInsertionPt());
@@ -355,7 +358,7 @@ private:
         auto *local = const_cast<Value *>(it);
         auto *argument = dyn_cast<Argument>(local);
         if (local == object || !(isa<AllocaInst>(local) || (argument && argument->hasByValAttr()))) continue;
-        if (auto *variable = dyn_cast<AllocaInst>(local); variable && is_temporary(*variable)) continue;
+        if (auto *variable = dyn_cast<AllocaInst>(local); variable && is_own(*variable)) continue;
         out.insert(local);
       }
     };
@@ -375,23 +378,48 @@ private:
     return out;
   }
 
-  // Whether the statement alone uses it.
+  // Whether it is memory that the compiler took for this statement. A variable of the user's may be used here alone, too: as a temporary it would
+  // be another one for each spawn, and its races were lost. What the compiler takes it fills before any other use. In C it hands no such
+  // address to a function but for results and structures by value: a compound literal is a variable.
   bool is_temporary(AllocaInst &local) const {
-    if (&local == object) return false;
-    SmallVector<Instruction *, 8> work{&local};
+    if (&local == object || assigns_inside) return false;
+    SmallVector<Instruction *, 8> work{&local}, fills, uses;
     SmallPtrSet<Instruction *, 8> seen;
-    bool is_used = false;
-    while (!work.empty())
-      for (User *user : work.pop_back_val()->users()) {
+    while (!work.empty()) {
+      Instruction *address = work.pop_back_val();
+      for (User *user : address->users()) {
         auto *it = cast<Instruction>(user);
         if (it->isLifetimeStartOrEnd() || isa<DbgInfoIntrinsic>(it)) continue;
-        bool is_address = isa<CastInst>(it) || isa<GetElementPtrInst>(it) || isa<PHINode>(it) || isa<SelectInst>(it);
-        if (!is_address && !all.inside.count(it)) return false;
-        is_used |= !is_address;
-        if (is_address && seen.insert(it).second) work.push_back(it);
+        if (isa<BitCastInst>(it) || isa<AddrSpaceCastInst>(it) || isa<GetElementPtrInst>(it) || isa<PHINode>(it) || isa<SelectInst>(it)) {
+          if (seen.insert(it).second) work.push_back(it);
+          continue;
+        }
+        if (!all.inside.count(it) || (!is_cxx && hands_over(*it, address))) return false;
+        (does_fill(*it, address) ? fills : uses).push_back(it);
       }
-    return is_used;
+    }
+    return !fills.empty() && none_of(uses, [&](Instruction *use) { return any_of(fills, [&](Instruction *fill) { return order.dominates(use, fill); }); });
   }
+
+  bool does_fill(Instruction &it, const Value *address) const {
+    if (auto *store = dyn_cast<StoreInst>(&it)) return store->getPointerOperand() == address && store->getValueOperand() != address;
+    if (auto *fill = dyn_cast<AnyMemIntrinsic>(&it)) return fill->getRawDest() == address;
+    auto *call = dyn_cast<CallBase>(&it);
+    if (!call || call->arg_size() == 0 || call->getArgOperand(0) != address) return false;
+    Called callee = called(*call, form);
+    return call->hasStructRetAttr() || (callee.is_constructor && callee.base[0] != '~');
+  }
+
+  static bool hands_over(Instruction &it, const Value *address) {
+    if (auto *store = dyn_cast<StoreInst>(&it)) return store->getValueOperand() == address;
+    auto *call = dyn_cast<CallBase>(&it);
+    if (!call || isa<IntrinsicInst>(call)) return isa<PtrToIntInst>(it);
+    for (unsigned i = 0; i < call->arg_size(); i++)
+      if (call->getArgOperand(i) == address && !call->isByValArgument(i) && !call->paramHasAttr(i, Attribute::StructRet)) return true;
+    return false;
+  }
+
+  bool is_own(AllocaInst &local) const { return is_contained(copies, &local) || is_temporary(local); }
 
   // Temporaries, and arguments in memory: in Cilk each spawn has its own.
   void renew_temporaries() {
@@ -399,7 +427,7 @@ private:
     const DataLayout &layout = function.getParent()->getDataLayout();
     for (Instruction &it : function.getEntryBlock()) {
       auto *local = dyn_cast<AllocaInst>(&it);
-      if (!local || !local->isStaticAlloca() || !is_temporary(*local)) continue;
+      if (!local || !local->isStaticAlloca() || !is_own(*local)) continue;
       if (!is_contained(copies, local) && !PointerMayBeCaptured(local, true, true)) continue;
       uint64_t bytes = layout.getTypeAllocSize(local->getAllocatedType()).getFixedValue() * cast<ConstantInt>(local->getArraySize())->getZExtValue();
       if (!bytes) continue;
@@ -416,6 +444,7 @@ private:
   Value *place = nullptr;                                   // what the statement assigns to
   std::string name;
   Form form;
+  bool assigns_inside;
   Region normal, all;
   SmallVector<AllocaInst *, 2> copies;
 };

@@ -12,6 +12,7 @@ The compiler computes the place of `p[i] = f(x)` behind the call as well, and in
 
 A spawn of what is no call, `cilk_spawn a[0] = g(1);`, is a spawned block, as in OpenCilk.
 """
+import re
 from dataclasses import dataclass
 
 ASSIGNMENTS = {"=", "+=", "-=", "*=", "/=", "%=", "&=", "|=", "^=", "<<=", ">>="}
@@ -25,6 +26,7 @@ ATTRIBUTES = {"__attribute__", "__attribute", "alignas", "_Alignas", "__extensio
 NO_CALL = SPECIFIERS | {"static_cast", "const_cast", "reinterpret_cast", "dynamic_cast", "sizeof", "alignof", "_Alignof", "__alignof__", "noexcept", "typeid"}
 # What the pass is told of the statement: what may be called behind the spawned call, beside destructors.
 NOTHING, ASSIGNED, BOUND, UNCLEAR = 0, 1, 2, 3
+ASSIGNS_INSIDE = 8                                          # with one of these: the call's own text assigns to variables
 NAMELESS = "operator()"                                     # the call of an object, or through a pointer
 
 
@@ -67,6 +69,7 @@ def statement(rewriter, begin, keyword, context):
         form = BOUND
         if call.name == "get":
             source.refuse(keyword, "a cilk_spawn of a get whose result is taken apart: declare auto x = cilk_spawn .. first")
+    inside = ASSIGNS_INSIDE if assigns(source, first, semicolon) else 0
     before, place, left = "", "", source.back_to(begin)
     if declares:
         left += rewriter.expression(begin, keyword, context)
@@ -75,7 +78,18 @@ def statement(rewriter, begin, keyword, context):
         before, place, left = target(rewriter, begin, equals, context)
         left += source.back_to(equals) + source.text(equals, keyword)
     statement = left + " " * len("cilk_spawn") + rewriter.expression(keyword + 1, semicolon + 1, context)
-    return before + marked(rewriter, keyword, call.name, form, statement, place, declares) + ("}" if before else ""), semicolon + 1
+    return before + marked(rewriter, keyword, call.name, form | inside, statement, place, declares) + ("}" if before else ""), semicolon + 1
+
+
+def assigns(source, begin, end):
+    """Whether an assignment stands in the call. Those in braces are a lambda's or a statement expression's, whose variables begin there."""
+    while begin < end:
+        if source.kinds[begin] == "operator" and source.tokens[begin] in ("{", "["):
+            begin = source.closing(begin)
+        elif source.tokens[begin] in ASSIGNMENTS:
+            return True
+        begin += 1
+    return False
 
 
 def marked(rewriter, keyword, name, form, statement, place="", declares=False):
@@ -174,8 +188,8 @@ def target(rewriter, begin, equals, context):
     words = source.words(first, end)
     if words == ["this"]:
         return "", "", source.back_to(begin) + source.text(begin, equals)
-    if not through and all(word == "::" or word[0].isalpha() or word[0] in "_$" for word in words):
-        variable = "".join(words)
+    variable = "".join(words)
+    if not through and re.fullmatch(r"(?:::)?[^\W\d][\w$]*(?:::[^\W\d][\w$]*)*", variable) and len(words) == 1 + 2 * words[1:].count("::") + (words[0] == "::"):
         return "", variable if rewriter.cxx else f"&{variable}", source.back_to(begin) + source.text(begin, equals)
     place = source.fresh()
     object_ = source.back_to(first) + rewriter.expression(first, end, context)
