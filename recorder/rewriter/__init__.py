@@ -1,5 +1,5 @@
 """The keywords of Cilk in preprocessed C and C++, rewritten into marks for the compiler pass (pass/spawns.cpp)."""
 from .rewrite import rewrite
-from .source import ELISION, Refused, assembly
+from .source import ELISION, Refused
 
-__all__ = ["ELISION", "Refused", "assembly", "rewrite"]
+__all__ = ["ELISION", "Refused", "rewrite"]

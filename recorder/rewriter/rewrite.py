@@ -36,7 +36,7 @@ class Rewriter:
                       "goto": self.gone, "_Cilk_spawn": self.spawn, "_Cilk_sync": self.sync, "_Cilk_for": self.loop, "_Cilk_scope": self.scope}
         self.kinds |= dict.fromkeys(("if", "while", "for", "switch"), self.controlled)
         if cxx:
-            self.kinds |= {"try": self.tried} | dict.fromkeys(("co_return", "co_await", "co_yield"), self.coroutine)
+            self.kinds["try"] = self.tried
 
     # ---- declarations ----
 
@@ -123,7 +123,7 @@ class Rewriter:
         if "namespace" in words or (words[:1] == ["extern"] and len(words) == 2):
             return "scope"
         heads = [word for word in words if word not in ("static", "typedef", "const", "volatile", "extern", "inline", "constexpr", "friend", "__extension__", "[")]
-        if heads and heads[0] in CLASSES and (not parameters or ":" in words):
+        if heads and heads[0] in CLASSES and (not parameters or ":" in words) or CLASSES & set(heads) and not parameters and "=" not in words:
             return "scope"
         if not parameters or "enum" in heads[:1]:
             return "initializer"
@@ -150,6 +150,10 @@ class Rewriter:
         source, close = self.source, self.source.closing(opening)
         if not source.has(opening, close):
             return source.text(opening, close + 1)
+        if self.cxx:
+            for at in source.jumps:
+                if opening < at < close and source.tokens[at].startswith("co_"):
+                    source.refuse(at, "a coroutine with a keyword of Cilk")
         syncs = source.contains(opening, close, "_Cilk_spawn")
         inside = self.statements(opening + 1, close, Context(syncs=syncs))
         return "{" + inside + ("__cilkcheck_mark_sync(); " if syncs else "") + "}"
@@ -308,11 +312,6 @@ class Rewriter:
         source, label = self.source, self.source.solid(at + 1)
         if context.outlined and (source.kinds[label] != "name" or source.tokens[label] not in context.labels):
             source.refuse(at, f"a goto out of {context.outlined}")
-        return self.simple(at, context)
-
-    def coroutine(self, at, context):
-        if context.syncs or context.outlined:
-            self.source.refuse(at, "a coroutine that spawns")
         return self.simple(at, context)
 
     def spawn(self, at, context):

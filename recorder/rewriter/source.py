@@ -42,8 +42,8 @@ KEYWORDS = {
     "_Hyperobject": Keyword("_Hyperobject", "", OPENCILK),
 }
 ANY_KEYWORD = re.compile(rf"\b(?:{'|'.join(KEYWORDS)})\b")
-# Options with which clang reads the user's text as the serial elision.
-ELISION = [f"-D{word}{'(...)' if keyword.refusal == OPENCILK else ''}={keyword.elision}" for word, keyword in KEYWORDS.items()]
+# Options with which clang reads the user's text as the serial elision. (It warns of variadic macros.)
+ELISION = [f"-D{word}{'(identity,reduce)' if keyword.refusal == OPENCILK else ''}={keyword.elision}" for word, keyword in KEYWORDS.items()]
 WIDEST = 500                                                # such lines come from macros
 JUMPS = {"return", "break", "continue", "goto", "co_return", "co_yield", "co_await"}
 
@@ -248,24 +248,3 @@ class Source:
         """What comes before the token, so that the compiler sees it at its line and column."""
         column = self.places[at][2]
         return self.line_mark(at) + " " * (column - 1 if column < WIDEST else 0)
-
-
-def assembly(text):
-    """Where the program's own text has inline assembly that may touch memory: [(file, line)]. An empty one, and a name for a function, does not."""
-    if not any(re.search(r"\b(?:asm|__asm__|__asm)\b", part) for is_system, part in parts(text) if not is_system):
-        return []
-    source, out = Source(text), []
-    for at, token in enumerate(source.tokens):
-        if token not in ("asm", "__asm__", "__asm") or source.kinds[at] != "name":
-            continue
-        opening = source.solid(at + 1)
-        while source.tokens[opening] in ("volatile", "__volatile__", "__volatile", "goto", "inline", "__inline__"):
-            opening = source.solid(opening + 1)
-        if source.tokens[opening] != "(" or opening not in source.pairs:
-            continue
-        words = source.words(opening + 1, source.closing(opening))
-        operands = ":" in words or "::" in words
-        template = "".join(word for word in (words[:words.index(":")] if ":" in words else words) if word.startswith('"'))
-        if template.replace('"', "").strip() and (operands or source.tokens[source.before(at)] in (";", "{", "}")):
-            out.append(source.places[at])
-    return out

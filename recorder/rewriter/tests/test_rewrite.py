@@ -210,6 +210,10 @@ class SpawnsInCxx(unittest.TestCase):
         text = out_of('extern "C" { struct s { int a; }; void h() { _Cilk_spawn f(); } } enum e { a }; int g() { _Cilk_sync; }', True)
         self.assertTrue(text.endswith("} } enum e { a }; int g() { __cilkcheck_mark_sync(); }"), text)
 
+    def test_a_class_with_conditions(self):
+        text = out_of("template <class T> requires C<T> struct alignas(8) A { void m() { _Cilk_sync; } }; int g() { _Cilk_sync; }", True)
+        self.assertTrue(text.endswith("{ void m() { __cilkcheck_mark_sync(); } }; int g() { __cilkcheck_mark_sync(); }"), text)
+
     def test_try(self):
         self.assertIn("f(); } __cilkcheck_mark_sync(); } catch (...) { }", out_of("void g() { try { _Cilk_spawn f(); } catch (...) { } }", True))
 
@@ -308,6 +312,7 @@ class Refusals(unittest.TestCase):
         ("void g(long _Hyperobject *sum) {\n  *sum = 0; }", False, 1, "_Hyperobject: a reducer of OpenCilk"),
         ("struct s {\n  long _Cilk_reducer(zero, add) sum; };", True, 2, "cilk_reducer: a reducer of OpenCilk"),
         ("void g(void) { _Cilk_scope f(); }", False, 1, "without a block"),
+        ("task g() {\n  _Cilk_spawn f(1);\n  int x = co_await h(); }", True, 3, "a coroutine"),
     ]
 
     def test_each(self):
