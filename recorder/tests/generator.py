@@ -8,7 +8,7 @@ import random
 
 from grammar.accesses import ACCESSES, STRUCT_HEADER, Modify, Write
 from grammar.control import CONTROL
-from grammar.cxx import CXX, CXX_HEADER, LINES, Method
+from grammar.cxx import CXX, CXX_HEADER, LINES, LocalVector, Method
 from grammar.drawing import Drawing, Here, Lines
 from grammar.frames import Frames
 from grammar.libc import COMPARE_LINES, LIBC, SORT_HEADER, TEXT, TEXT_SIZE
@@ -142,6 +142,9 @@ class Program:
             base = Table(name, type_, 2, count) if kind == "table" else Base(name, type_, count)
             function.locals.append(Local(base, kind))
             here.scope.append(base)
+        if self.cxx and self.random.random() < 0.3:
+            function.locals.append(LocalVector(self.draw.name("v"), self.random.randint(1, 3)))
+            here.scope.append(function.locals[-1].base)
         function.body = self.block(here, self.random.randint(3, 7))
 
     def callees(self, here, throwing):

@@ -136,7 +136,7 @@ class Loop(Statement):
 
 class Break(Statement):
     """Leaves the loop around it, or goes on with its next round, in one of its rounds."""
-    weight = 2
+    weight = 8
 
     def __init__(self, index, value, is_break):
         self.index, self.value, self.is_break = index, value, is_break
@@ -178,7 +178,7 @@ class Skip(Statement):
 
 
 class Leave(Statement):
-    weight = 1
+    weight = 6
 
     def __init__(self, place):
         self.place = place

@@ -227,25 +227,18 @@ class Vector(Base):
         return f"{self.name}.data()"
 
 
-class DeclareVector(Statement):
-    """There is room for all that is appended, so that the elements stay where they are."""
-    weight, only = 3, "c++"
+class LocalVector:
+    """A local of a function. There is room for all that is appended, so that the elements stay where they are."""
     ROOM = 400
 
-    def __init__(self, base):
-        self.base, self.declared = base, [base]
-
-    @classmethod
-    def draw(cls, program, here):
-        if here.depth or here.inner:
-            return None
-        return cls(Vector(program.draw.name("v"), INT, program.random.randint(1, 3)))
+    def __init__(self, name, count):
+        self.base = Vector(name, INT, count)
 
     def write(self, out):
         name = self.base.name
         self.line = out.line(f"std::vector<int> {name}; {name}.reserve({self.ROOM}); {name}.resize({self.base.count});")
 
-    def run(self, oracle, frame):
+    def begin_life(self, oracle, frame, _n):
         at, elements = oracle.life(), oracle.life()
         frame.names[self.base.name] = at
         oracle.values[at], oracle.values[at, "count"] = elements, self.base.count
@@ -256,7 +249,7 @@ class DeclareVector(Statement):
 class UseVector(Statement):
     """push_back reads where the elements end and where their room does, writes an element, and writes their end; size
     reads begin and end."""
-    weight, only = 3, "c++"
+    weight, only = 6, "c++"
 
     def __init__(self, base, is_appended):
         self.base, self.is_appended = base, is_appended
@@ -279,7 +272,7 @@ class UseVector(Statement):
             return
         count = oracle.values[at, "count"]
         elements = oracle.values[at]
-        if count >= DeclareVector.ROOM:
+        if count >= LocalVector.ROOM:
             raise oracle.TooLong
         oracle.values[at, "count"] += 1
         oracle.access(frame, (life, offset + 8), 16, READ, self.line)
@@ -319,4 +312,4 @@ class Container(Statement):
         oracle.use(frame, name, kind, self.line)
 
 
-CXX = [Method, Virtual, Template, NamedLambda, Guard, Try, DeclareVector, UseVector, Container]
+CXX = [Method, Virtual, Template, NamedLambda, Guard, Try, UseVector, Container]
