@@ -42,23 +42,35 @@ static DICompositeType *structure(DIType *type) {
   return it && (it->getTag() == dwarf::DW_TAG_structure_type || it->getTag() == dwarf::DW_TAG_class_type) ? it
                                                                                                           : nullptr;
 }
-// The only member, or base class, where the byte lies.
-static DIDerivedType *member_at(DICompositeType &type, uint64_t offset) {
+static bool is_member(const DINode *node) {
+  auto *it = dyn_cast<DIDerivedType>(node);
+  return it && !it->isStaticMember() &&
+         (it->getTag() == dwarf::DW_TAG_member || it->getTag() == dwarf::DW_TAG_inheritance);
+}
+// The only member, or base class, where the bytes lie; none where bit-fields share them.
+static DIDerivedType *member_at(DICompositeType &type, uint64_t offset, uint64_t bytes) {
   DIDerivedType *found = nullptr;
   for (DINode *node : type.getElements()) {
-    auto *it = dyn_cast<DIDerivedType>(node);
-    if (!it || it->isStaticMember() ||
-        (it->getTag() != dwarf::DW_TAG_member && it->getTag() != dwarf::DW_TAG_inheritance))
+    if (!is_member(node))
       continue;
+    auto *it = cast<DIDerivedType>(node);
     uint64_t size = it->getSizeInBits() ? it->getSizeInBits() : bytes_of(it->getBaseType()) * 8;
     uint64_t from = it->getOffsetInBits(), to = from + size;
-    if (from >= offset * 8 + 8 || to <= offset * 8)
+    if (from >= (offset + bytes) * 8 || to <= offset * 8)
       continue;
     if (found)
-      return nullptr; // bit-fields
+      return nullptr;
     found = it;
   }
   return found;
+}
+// The array without a length at the end of a structure.
+static DIDerivedType *tail_of(DICompositeType &type) {
+  DIDerivedType *last = nullptr;
+  for (DINode *node : type.getElements())
+    if (is_member(node))
+      last = cast<DIDerivedType>(node);
+  return last && array(last->getBaseType()) && !bytes_of(last->getBaseType()) ? last : nullptr;
 }
 
 Names::Names(Function &function) : layout(function.getParent()->getDataLayout()) {
@@ -98,12 +110,21 @@ Names::Lvalue Names::member(const Lvalue &of, const DIDerivedType &which) {
 Names::Lvalue Names::walk(Lvalue from, int64_t offset, uint64_t bytes, bool one_value) {
   for (unsigned steps = 0; steps < 16; steps++) {
     int64_t size = bytes_of(from.type);
+    if (auto *whole = structure(from.type); whole && offset >= 0 && tail_of(*whole)) {
+      auto *tail = tail_of(*whole);
+      int64_t begin = tail->getOffsetInBits() / 8;
+      if (offset >= begin) {
+        from = member(from, *tail);
+        offset -= begin;
+        continue;
+      }
+    }
     if (from.pointee && (offset < 0 || (size && offset >= size))) {
       from = index(from, from.type);
       offset = size ? (offset % size + size) % size : 0;
       continue;
     }
-    bool counted = array(from.type) && !size; // its length is a variable's
+    bool counted = array(from.type) && !size && (offset || bytes != UINT64_MAX); // its length is a variable's
     if ((!size && !counted) || offset < 0 || (!offset && !counted && bytes >= (uint64_t)size && !one_value))
       break;
     if (auto *it = array(from.type)) {
@@ -116,7 +137,9 @@ Names::Lvalue Names::walk(Lvalue from, int64_t offset, uint64_t bytes, bool one_
         from = index(from, element_of(*it));
       offset %= element;
     } else if (auto *it = structure(from.type)) {
-      auto *which = member_at(*it, offset);
+      if (it->getName() == "__va_list_tag")
+        return {}; // clang's own
+      auto *which = member_at(*it, offset, one_value ? std::min<uint64_t>(bytes, 16) : 1);
       if (!which || (one_value && bytes_of(which->getBaseType()) < bytes) || which->isArtificial())
         break;
       from = member(from, *which);
@@ -138,7 +161,7 @@ Names::Lvalue Names::element(Lvalue base, const GEPOperator &address) const {
   auto at = address.idx_begin();
   // a member at offset 0 has no address computation of its own
   while (auto *fields = structure(base.type)) {
-    auto *first = isa<StructType>(type) && step >= bytes_of(fields) ? nullptr : member_at(*fields, 0);
+    auto *first = isa<StructType>(type) && step >= bytes_of(fields) ? nullptr : member_at(*fields, 0, 1);
     if (!first || (step >= bytes_of(fields) && !isa<ArrayType>(type)))
       break;
     base = member(base, *first);

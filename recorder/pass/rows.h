@@ -1,7 +1,7 @@
 /* The rows that the compiler pass puts into a recorded object, and how the runtime reads them. C11 and C++.
 
    A reference is a signed difference, TARGET - ADDRESS OF THE FIELD, so that a position-independent program has nothing
-   to relocate; 0: none. Each kind of row has a section of its own: the linker makes `__start_NAME` and `__stop_NAME`. */
+   to relocate; 0: none. Each kind of row has its section, from `__start_NAME` to `__stop_NAME` (the linker). */
 #ifndef CILKCHECK_ROWS_H
 #define CILKCHECK_ROWS_H
 #include <stdint.h>

@@ -69,6 +69,11 @@ void bit_write(struct bits *p) { p->b = 3; }                            /* told:
 unsigned bit_read(struct bits *p) { return p->a; }                      /* told: read1 *p */
 void bit_wide(struct bits *p) { p->c = 3; }                             /* told: write1 p->c */
 
+struct shared_unit { long a : 33; long b : 31; } g_unit;                /* object: 8 */
+long bits_of_one_unit(void) { return g_unit.a; }                        /* told: read8 g_unit */
+struct tailed { int n; char tail[]; };
+int tail(struct tailed *t, int i) { return t->tail[i] + t->tail[0]; }   /* told: read1 t->tail[]; read1 t->tail[] */
+
 void packed(void) { g_packed.i = 1; }                                   /* told: write4 g_packed.i */
 double packed_double(struct packed *p) { return p->d; }                 /* told: read8 p->d */
 void unaligned(char *p) { *(int *)(p + 1) = 1; }                        /* told: write4 p[] */

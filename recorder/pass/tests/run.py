@@ -6,8 +6,8 @@
 A comment stands on the line of what it speaks of:
 
     /* told: read4 g_x; write4 p->y */   these accesses, in this order: read, write, load (atomic), bump (an atomic
-                                         store or update) or either (a compare-exchange), the bytes (`?`: known when it runs)
-                                         and the name, if it has one
+                                         store or update) or either (a compare-exchange), the bytes (`?`: known when
+                                         it runs) and the name, if it has one
     /* frame: x 4, y 16 */               a hooked function, with these locals; `frame: none`: hooked, with no local
     /* dynamic: v */                     an array whose length only the run knows
     /* object: 4 */                      a global or static object of so many bytes
