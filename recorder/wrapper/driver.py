@@ -89,8 +89,9 @@ def build(commands, cxx):
     compiler = found()
     files, mode = commands.files(), commands.mode
     is_in_error = mode != "preprocess" and any(it.name == "-" and not it.language for it in files)
-    if mode == "clang" or not files or is_in_error:
-        run_clang(commands, compiler, cxx, [])
+    compiles_nothing = mode in ("-c", "-S") and not any(it.language for it in files)
+    if mode == "clang" or not files or is_in_error or compiles_nothing:
+        run_clang(commands, compiler, cxx, [mode] if mode in ("-c", "-S") else [])
     if mode == "preprocess":
         compiler.supported()
         run_clang(commands, compiler, cxx, OURS)
