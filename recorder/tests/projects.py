@@ -1,6 +1,6 @@
 #!/usr/bin/env python3
-"""A project with a Makefile and one with CMake, of several files and a library each, and one of each kind that is written for OpenCilk's compiler and
-its flags: built by the wrappers, clean and with a race.
+"""A project with a Makefile and one with CMake, of several files and a library each, and one of each kind that is
+written for OpenCilk's compiler and its flags: built by the wrappers, clean and with a race.
 
     projects.py [--cilkcheck PATH] [--expect N]
 """
@@ -24,14 +24,23 @@ def make(given, folder, compiler, race):
 
 def cmake(given, folder, compiler, race):
     env = {"CILKCHECK_CC": compiler}
-    tools = [f"-DCMAKE_C_COMPILER={given.wrappers / 'cilkcheck-cc'}", f"-DCMAKE_CXX_COMPILER={given.wrappers / 'cilkcheck-c++'}"]
+    tools = [
+        f"-DCMAKE_C_COMPILER={given.wrappers / 'cilkcheck-cc'}",
+        f"-DCMAKE_CXX_COMPILER={given.wrappers / 'cilkcheck-c++'}",
+    ]
     first = harness.run(["cmake", "-S", ".", "-B", "build", *tools, f"-DRACE={'ON' if race else 'OFF'}"], folder, env)
-    return [first, harness.run(["cmake", "--build", "build"], folder, env)], folder / "build/sorted", folder / "sorting/sort.cpp"
+    steps = [first, harness.run(["cmake", "--build", "build"], folder, env)]
+    return steps, folder / "build/sorted", folder / "sorting/sort.cpp"
 
 
 def opencilk_make(given, folder, compiler, race):
-    words = ["make", "-s", *(f"{name}={given.wrappers / tool}" for name, tool in (("CC", "cilkcheck-cc"), ("CXX", "cilkcheck-c++")))]
-    return [harness.run(words + ["EXTRA_CFLAGS=-DRACE"] * race, folder, {"CILKCHECK_CC": compiler})], folder / "count", folder / "bins.cpp"
+    words = [
+        "make",
+        "-s",
+        *(f"{name}={given.wrappers / tool}" for name, tool in (("CC", "cilkcheck-cc"), ("CXX", "cilkcheck-c++"))),
+    ]
+    ran = harness.run(words + ["EXTRA_CFLAGS=-DRACE"] * race, folder, {"CILKCHECK_CC": compiler})
+    return [ran], folder / "count", folder / "bins.cpp"
 
 
 def opencilk_cmake(given, folder, compiler, race):
@@ -63,7 +72,11 @@ def check(job):
 def main():
     given = harness.parser(__doc__).parse_args()
     with tempfile.TemporaryDirectory(prefix="cilkcheck-projects-") as room:
-        jobs = [(given, room, *it) for it in itertools.product((make, cmake, opencilk_make, opencilk_cmake), harness.COMPILERS, (False, True))]
+        jobs = [
+            (given, room, *it) for it in itertools.product(
+                (make, cmake, opencilk_make, opencilk_cmake), harness.COMPILERS, (False, True)
+            )
+        ]
         failures = harness.shown(it for it in harness.in_parallel(check, jobs, given.jobs) if it)
     harness.finish("projects", len(jobs), failures, given.expect)
 
