@@ -24,6 +24,7 @@ SPECIFIERS = {"auto", "const", "volatile", "static", "register", "extern", "thre
               "_BitInt", "_Float16", "__float128", "wchar_t", "char8_t", "char16_t", "char32_t", "__signed__", "__const", "__volatile__"}
 ATTRIBUTES = {"__attribute__", "__attribute", "alignas", "_Alignas", "__extension__"}
 NO_CALL = SPECIFIERS | {"static_cast", "const_cast", "reinterpret_cast", "dynamic_cast", "sizeof", "alignof", "_Alignof", "__alignof__", "noexcept", "typeid"}
+UNARY = {"__real__", "__real", "__imag__", "__imag", "__extension__"}
 # What the pass is told of the statement: what may be called behind the spawned call, beside destructors.
 NOTHING, ASSIGNED, BOUND, UNCLEAR = 0, 1, 2, 3
 ASSIGNS_INSIDE = 8                                          # with one of these: the call's own text assigns to variables
@@ -179,7 +180,7 @@ def target(rewriter, begin, equals, context):
         first, last = source.solid(first + 1), source.before(last)
     solids = source.solids(first, last + 1)
     members = len(solids)                                   # .a.b or ->a.b at the end
-    while members >= 3 and source.kinds[solids[members - 1]] == "name" and source.tokens[solids[members - 2]] in (".", "->"):
+    while is_postfix(source, first) and members >= 3 and source.kinds[solids[members - 1]] == "name" and source.tokens[solids[members - 2]] in (".", "->"):
         members -= 2
         if source.tokens[solids[members]] == "->":
             break
@@ -201,6 +202,13 @@ def target(rewriter, begin, equals, context):
     if through:
         return f"{{__auto_type {place} = ({object_}); ", place, f"{place}{rest}"
     return f"{{__auto_type {place} = &({object_}); ", place, f"(*{place}){rest}"
+
+
+def is_postfix(source, at):
+    """Whether no unary operator and no cast stands before the rest: the members of `*p.q` are not those of *p."""
+    if source.tokens[at] == "(":
+        return source.tokens[source.solid(source.closing(at) + 1)] in (".", "->", "[", "(")
+    return source.tokens[at] == "::" or source.kinds[at] == "name" and source.tokens[at] not in UNARY
 
 
 # ---- the call ----

@@ -114,7 +114,8 @@ class SpawnsInC(unittest.TestCase):
         for left, before, place, after in [
                 ("*p", "&( *p)", "V1", "(*V1)"), ("a[i]", "&( a[i])", "V1", "(*V1)"), ("a[i].b.bits", "&( a[i])", "V1", "(*V1) .b.bits"),
                 ("p->bits", "( p)", "V1", "V1 ->bits"), ("p->q->r.s", "( p->q)", "V1", "V1 ->r.s"), ("(*p).bits", "&( (*p))", "V1", "(*V1) .bits"),
-                ("f(1)->x", "( f(1))", "V1", "V1 ->x")]:
+                ("f(1)->x", "( f(1))", "V1", "V1 ->x"), ("*s.p", "&( *s.p)", "V1", "(*V1)"), ("*s->p++", "&( *s->p++)", "V1", "(*V1)"),
+                ("*(T *)s.p", "&( *(T *)s.p)", "V1", "(*V1)"), ("((T *)s)->p", "( ((T *)s))", "V1", "V1 ->p"), ("__real__ s.z", "&( __real__ s.z)", "V1", "(*V1)")]:
             with self.subTest(left=left):
                 self.assertEqual(in_c(f"{left} |= _Cilk_spawn f(1);"),
                                  f'{{__auto_type V1 = {before}; {{ __cilkcheck_mark_spawn(1, "f", 1, {place}); {after} |= f(1); __cilkcheck_mark_spawned(1);}}}}')
