@@ -155,8 +155,12 @@ void Teller::tell_assembly(CallBase &call) {
 // ABI.
 bool Teller::tell_atomic_library(CallBase &call) {
   auto *callee = call.getCalledFunction();
-  if (!callee || !callee->isDeclaration() || !begins_with(callee->getName(), "__atomic_") || !isa<CallInst>(call))
+  if (!callee || !callee->isDeclaration() || !begins_with(callee->getName(), "__atomic_"))
     return false;
+  if (!isa<CallInst>(call)) {
+    recording.note(call, "an atomic operation as a call that may throw");
+    return false;
+  }
   StringRef name = callee->getName().drop_front(strlen("__atomic_"));
   Instruction *behind = call.getNextNode();
   auto argument = [&](unsigned i) { return call.getArgOperand(i); };
