@@ -1,12 +1,13 @@
 #!/usr/bin/env python3
-"""Runs the commands of docs/GUIDE.md for C programs in an empty folder, by gcc, and compares what they print.
+"""Runs the commands of docs/GUIDE.md for C programs in an empty folder, and compares what they print.
 
     page.py [--cilkcheck PATH] [--wrappers FOLDER] [--expect N]
 
 - A block ```c FILE is the example of that name, whole, and is put into the folder.
-- A block ```sh-session has commands, each behind `$ `, and what they print on standard output and error. They find the wrappers and the judge
-  on the PATH; `$?` is the status of the one before.
-- A block ```diff has the lines that the mended example FILE_mended.c takes out of FILE and puts into it, which is then done in the folder.
+- A block ```sh-session has commands, each behind `$ `, and what they print on standard output and error. They find
+  the wrappers and the judge on the PATH; `$?` is the status of the one before.
+- A block ```diff has the lines that the mended example FILE_mended.c takes out of FILE and puts into it, which is then
+  done in the folder.
 - The blocks ```sh-session of README.md are run first, as soon as the example is in the folder.
 - .ci/pages runs and compares the other kinds of blocks (OTHERS).
 """
@@ -35,7 +36,7 @@ class Reader:
         (tools / "cilkcheck").symlink_to(given.cilkcheck.resolve())
         self.folder = self.room / "folder"
         self.folder.mkdir()
-        self.env = {**harness.ENVIRONMENT, "CILKCHECK_CC": "gcc", "PATH": f"{tools}:{given.wrappers.resolve()}:{harness.ENVIRONMENT['PATH']}"}
+        self.env = {**harness.ENVIRONMENT, "PATH": f"{tools}:{given.wrappers.resolve()}:{harness.ENVIRONMENT['PATH']}"}
 
     def check(self, line, holds, said):
         self.checks += 1
