@@ -14,11 +14,8 @@ static FunctionCallee access_hook(Module &module, const std::string &name, Type 
   auto *function = dyn_cast<Function>(hook.getCallee());
   if (!function || !function->isDeclaration())
     return hook; // the canary has its own
-  // The hook keeps an account of its own; the program's memory stays in registers around it. It is neither dropped nor
-  // merged, since it writes, and marks and calls stay where they are, since they may write the same.
   function->setDoesNotThrow();
   function->setWillReturn();
-  set_only_own_memory(*function);
   function->addParamAttr(0, Attribute::NoCapture);
   return hook;
 }

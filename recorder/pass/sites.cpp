@@ -75,7 +75,17 @@ static void keep_place(Recording &recording, Function &function, ArrayRef<CallBa
       put_back(call->getNextNode());
 }
 
+// A hook keeps an account of its own, so the program's memory stays in registers around it; it is neither dropped nor
+// merged, since it writes. In a header it reads `__cilkcheck_place` besides.
+static void keep_memory(Recording &recording, Function &function) {
+  for (Instruction &it : instructions(function))
+    if (recording.hooks.tells(&it))
+      if (SourceFile *source = recording.files.find(position_of(it).file); source && !source->system)
+        cast<CallBase>(it).setOnlyAccessesInaccessibleMemory();
+}
+
 void tell_calls(Recording &recording, Function &function, Sites &sites) {
+  keep_memory(recording, function);
   Constant *none = Constant::getNullValue(recording.types.pointer);
   std::vector<CallBase *> calls;
   for (Instruction &it : instructions(function))

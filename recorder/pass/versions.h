@@ -43,9 +43,6 @@ template <class T> void forget_memory_attributes(T &of) {
 #endif
 }
 
-// What is marked so touches no memory that the program can name: its own alone.
-inline void set_only_own_memory(llvm::Function &function) { function.setOnlyAccessesInaccessibleMemory(); }
-
 // Calls `declared(address, variable, expression)` for each debug record that says where a variable lies. From 17 on
 // clang -O1 says it by dbg.assign, from 19 on by records beside the instructions.
 template <class F> void each_declaration(llvm::Instruction &instruction, F declared) {
