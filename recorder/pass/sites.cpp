@@ -78,10 +78,15 @@ static void keep_place(Recording &recording, Function &function, ArrayRef<CallBa
 // A hook keeps an account of its own, so the program's memory stays in registers around it; it is neither dropped nor
 // merged, since it writes. In a header it reads `__cilkcheck_place` besides.
 static void keep_memory(Recording &recording, Function &function) {
-  for (Instruction &it : instructions(function))
-    if (recording.hooks.tells(&it))
-      if (SourceFile *source = recording.files.find(position_of(it).file); source && !source->system)
-        cast<CallBase>(it).setOnlyAccessesInaccessibleMemory();
+  for (Instruction &it : instructions(function)) {
+    if (!recording.hooks.tells(&it))
+      continue;
+    auto &hook = cast<CallBase>(it);
+    SourceFile *source = recording.files.find(position_of(it).file);
+    bool is_defined = hook.getCalledFunction() && !hook.getCalledFunction()->isDeclaration(); // in the canary
+    if (source && !source->system && !is_defined)
+      hook.setOnlyAccessesInaccessibleMemory();
+  }
 }
 
 void tell_calls(Recording &recording, Function &function, Sites &sites) {
