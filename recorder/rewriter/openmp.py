@@ -5,6 +5,7 @@ import re
 UNTOLD = {"for", "sections", "section", "ordered", "target", "teams", "distribute", "threadprivate", "cancel", "cancellation", "scan", "loop",
           "workshare", "critical", "depobj", "interop", "metadirective", "requires", "assume", "scope"}
 CLAUSES = re.compile(r"\b(depend|detach|in_reduction|task_reduction|reduction|copyin|copyprivate|affinity)\s*\(")
+STRICT = re.compile(r"\b(grainsize|num_tasks)\s*\(\s*strict\b")
 # [[omp::directive(task)]], [[using omp: sequence(..)]]
 ATTRIBUTE = re.compile(r"omp\s*::?\s*(?:directive|sequence)\b")
 
@@ -34,3 +35,7 @@ def check(source, used):
         clause = CLAUSES.search(found.group(1))
         if clause:
             source.refuse(at, f"#pragma omp {' '.join(words)} with {clause.group(1)} is not recorded")
+        strict = STRICT.search(found.group(1))
+        if strict:                                          # clang calls the runtime as without it
+            why = "leave it out, or make the tasks in a loop"
+            source.refuse(at, f"#pragma omp {words[0]}: strict of {strict.group(1)} is not recorded: {why}")

@@ -325,7 +325,8 @@ class Refusals(unittest.TestCase):
                 self.assertIn(why, refused.exception.why)
 
     def test_openmp(self):
-        for directive in ("parallel for", "for", "sections", "critical", "threadprivate(x)", "task depend(out: x)", "taskloop reduction(+: x)", "ordered"):
+        for directive in ("parallel for", "for", "sections", "critical", "threadprivate(x)", "task depend(out: x)", "taskloop reduction(+: x)", "ordered",
+                          "taskloop grainsize(strict: 4)", "taskloop num_tasks(strict: 4)"):
             with self.subTest(directive=directive), self.assertRaises(Refused) as refused:
                 rewrite(f'# 0 "t.c"\n# 1 "t.c"\nvoid g(void) {{\n#pragma omp {directive}\n  h(); }}\n', False, openmp_on=True)
             self.assertEqual(refused.exception.line, 2)
