@@ -130,9 +130,18 @@ class Source:
         said = child.stderr.read().decode("utf-8", "replace")
         child.stderr.close()
         if child.wait():
+            if child.returncode != REFUSED:
+                self.compile_alone()
             raise self.unrecorded(said, child.returncode)
         if not is_marked(target):
             raise Failed(REFUSED, f"refused: {self.source.name}: an option keeps the compiler pass from running")
+
+    def compile_alone(self):
+        """Compiles the user's text without the pass: what its code generator refuses, as of inline assembly, clang says itself."""
+        options = [*self.commands.for_preprocessing(), *self.commands.for_compiling(), *self.openmp, *elision(), "-w"]
+        status = self.start([*self.driver, *options, "-c", *self.input(), "-o", os.devnull]).wait()
+        if status:
+            raise Failed(status if status > 0 else 1)
 
     def unrecorded(self, said, status):
         """Why the rewritten text was not compiled, though clang takes the user's."""
