@@ -1,7 +1,7 @@
 #!/usr/bin/env python3
 """Small programs with what is expected of them, at three levels.
 
-    cases.py [--cilkcheck PATH] [--jobs N] [--expect N] [--compilers NAME..] [--chosen | --spread | --levels LEVEL..]
+    cases.py [--cilkcheck PATH] [--jobs N] [--expect N] [--without NAME] [--compilers NAME..] [--chosen | --spread | --levels LEVEL..]
              [NAME..]
 
 The first line of a case is a comment of parts between semicolons, the last one for the reader:
@@ -117,9 +117,11 @@ def main():
     parser.add_argument("--levels", nargs="*", default=harness.LEVELS)
     parser.add_argument("--chosen", action="store_true", help="-O0 and -O2, and -O3 where optimization may matter")
     parser.add_argument("--spread", action="store_true", help="-O0, and -O2 or -O3 in turns")
+    parser.add_argument("--without", default="-", metavar="NAME", help="leaves out the cases whose names begin so")
     parser.add_argument("names", nargs="*", help="cases, by the beginning of their names")
     given = parser.parse_args()
     sources = [it for it in sorted(CASES.iterdir()) if not given.names or it.name.startswith(tuple(given.names))]
+    sources = [it for it in sources if not it.name.startswith(given.without)]
     with tempfile.TemporaryDirectory(prefix="cilkcheck-cases-") as room:
         jobs = []
         for k, source in enumerate(sources):
