@@ -1,0 +1,4 @@
+pub mod Conflicts
+pub mod Accesses
+pub mod Current
+pub mod ReducerReads
