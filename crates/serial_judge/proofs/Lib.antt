@@ -1,0 +1,11 @@
+pub mod Ascending
+pub mod Kept
+pub mod Recorded
+pub mod Judging
+pub mod Writing
+pub mod Events
+pub mod Spawning
+pub mod Reading
+pub mod Beginning
+pub mod ReadRaces
+pub mod Moving

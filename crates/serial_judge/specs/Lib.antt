@@ -1,0 +1,15 @@
+pub mod Numbers
+pub mod Spans
+pub mod Records
+pub mod Judge
+pub mod Runs
+pub mod Branches
+pub mod Reads
+pub mod Scopes
+pub mod Follows
+pub mod Control
+pub mod Remembers
+pub mod Answers
+pub mod ReducerRaces
+pub mod Moves
+pub mod Laws
