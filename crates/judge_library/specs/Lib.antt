@@ -1,0 +1,5 @@
+pub mod Holding
+pub mod Passed
+pub mod Faults
+pub mod Begun
+pub mod Marking
